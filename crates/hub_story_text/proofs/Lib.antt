@@ -11,3 +11,4 @@ pub mod Places
 pub mod Ranks
 pub mod Packs
 pub mod OwnEnds
+mod Picks

@@ -20,7 +20,7 @@ use hub_story::{ByPort, Level, Told};
 use std::alloc::{AllocError, Global};
 
 /// A call that moved a value.
-#[derive(Clone, Copy, Debug, PartialEq, Eq)]
+#[derive(Clone, Copy)]
 pub(crate) struct PortMove {
     /// Through which port.
     pub(crate) port: Port,
@@ -126,20 +126,26 @@ pub(crate) fn places_on(
 ) -> Result<Vec<u32>, AllocError>
     ensures { IfOk result (λ places. places.items ≡ places_on port moves.now) }
 {
-    moves
-        .iter()
-        .filter_map(|moved| (moved.port.0 == port.0).then_some(moved.place))
-        .collect(alloc)
+    let mut places = Vec::new(alloc);
+    for moved in moves {
+        if moved.port.0 == port.0 {
+            places.push(moved.place)?;
+        }
+    }
+    Ok(places)
 }
 
 /// The places of the steps by which the calls moved their values through this port, in order.
 fn steps_on(alloc: Global, moves: &[PortMove], port: Port) -> Result<Vec<u32>, AllocError>
     ensures { IfOk result (λ steps. steps.items ≡ steps_on port moves.now) }
 {
-    moves
-        .iter()
-        .filter_map(|moved| (moved.port.0 == port.0).then_some(moved.by))
-        .collect(alloc)
+    let mut steps = Vec::new(alloc);
+    for moved in moves {
+        if moved.port.0 == port.0 {
+            steps.push(moved.by)?;
+        }
+    }
+    Ok(steps)
 }
 
 /// How many there are.

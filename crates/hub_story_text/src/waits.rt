@@ -17,7 +17,7 @@ use std::alloc::{AllocError, Global};
 pub(crate) const MOST_LONGEST: usize = 5;
 
 /// The wait of a call.
-#[derive(Clone, Copy, Debug, PartialEq, Eq)]
+#[derive(Clone, Copy)]
 struct Wait {
     /// The place of its entry.
     place: u32,

@@ -1,9 +1,10 @@
-use Rattle.std.proofs.Common.{refl, ◌∙◌, ◌++◌, ◌≡◌, ◌<◌, ap, sym, subst, arith, length}
+use Rattle.std.proofs.Common.{refl, ◌∙◌, ◌++◌, ◌≡◌, ◌≤◌, ◌<◌, ap, append-nil, sym, subst, arith, length}
+use Rattle.std.proofs.lemmas.List.{drop_all}
 use Rattle.std.proofs.lemmas.Option.{get_or_from_slice_get}
 use Rattle.hub_story.specs.Levels.{told_by}
 use Rattle.hub_story_text.specs.Explained.{entries_of, told_of}
 use Rattle.hub_story_text.specs.LastMoves.{AreLast}
-use Rattle.hub_story_text.specs.StoryText.{step_text}
+use Rattle.hub_story_text.specs.StoryText.{step_text, steps_text}
 use Rattle.hub_story_text.proofs.Chains.{line-more}
 use Rattle.hub_story_text.proofs.Groups.{first-cut, next-cut, none-before}
 use Rattle.hub_story_text.proofs.StepTexts.{step-is, step-shown, step-hidden}
@@ -62,3 +63,12 @@ returns-clause-last c =
     let last : c.loop-place.place ≡ length es =
     omega (arith, c.loop-place.auto.place-end, c.loop-place-test.false, ap length c.entries-entries.ensures) in
     subst (λ k. AreLast es (told_by k (told_of c.args.explained.now)) c.loop-place.moves) last c.loop-place.invariant.last
+
+pub returns-clause-text : goal.returns-clause-text
+returns-clause-text c =
+    let es = entries_of c.args.explained.now in
+    let place = c.loop-place.place in
+    let out = c.loop-place.out.items in
+    let past : length es ≤ place = omega (arith, c.loop-place-test.false, ap length c.entries-entries.ensures) in
+    sym (append-nil out) ∙ ap (λ l. out ++ steps_text c.args.window es (told_of c.args.explained.now) place l) (sym (drop_all place es past))
+    ∙ c.loop-place.invariant.text

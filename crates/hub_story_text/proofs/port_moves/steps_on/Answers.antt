@@ -1,0 +1,17 @@
+use Rattle.hub_story_text.specs.declared.port_moves.PortMove.{PortMove}
+use Rattle.hub_story_text.proofs.Picks.{passed, picked}
+use Rattle.hub_story_text.proofs.port_moves.steps_on.Goals.{then-moved-port+in_ok-push, else-moved-port}
+use Rattle.hub_story_text.proofs.port_moves.steps_on.Goals as goal
+
+pub loop-moved-preserved : goal.loop-moved-preserved
+loop-moved-preserved c =
+    let read = λ (m : PortMove). m.by in
+    let i = c.loop-moved.moved-index in
+    let old = c.loop-moved.steps.items in
+    elim c.if-moved-port.branch [
+      | then-moved-port+in_ok-push w ↦
+          rw w.steps-is
+          (picked read c.args.port c.args.moves.now i _ old _ _ c.loop-moved-test.true w.if-moved-port.true c.loop-moved.invariant w.in_ok-push.ensures.items)
+      | else-moved-port w ↦
+          rw w.steps-is (passed read c.args.port c.args.moves.now i _ old _ c.loop-moved-test.true w.if-moved-port.false c.loop-moved.invariant)
+    ]

@@ -5,11 +5,14 @@ ghost use Rattle.std.specs.List.{flat_map};
 ghost use Rattle.hub_trace.specs.Diagram.{escape, event_text, from_port_text, handed_text, into_port_text, is_shown, mermaid_text};
 ghost use Rattle.hub_trace.specs.Diagram.{move_text, note_of, note_text, port_text, process_text, sends_by};
 
+mod body;
+
+use self::body::push_diagram;
 use crate::Window;
 use crate::moves::{Move, Way, move_of};
-use crate::pen::{Pen, push_each, push_numbers};
+use crate::pen::Pen;
 use crate::pieces::{Piece, number_of, put_pieces};
-use crate::ports::{has_room, ports_with_room};
+use crate::ports::has_room;
 use hub_base::{Case, EntryRef, NoMemory, Port};
 use hub_core::{ShortEntries, ShortJournal};
 use hub_story::{ShortStory, Told};
@@ -272,10 +275,13 @@ fn shown_of(
 ) -> Result<Vec<Told>, AllocError>
     ensures { IfOk result (λ shown. shown.items ≡ filter (is_shown window procs) told.now) }
 {
-    told.iter()
-        .filter(|told| is_shown(window, procs, told))
-        .copied()
-        .collect(alloc)
+    let mut shown = Vec::new(alloc);
+    for told in told {
+        if is_shown(window, procs, told) {
+            shown.push(*told)?;
+        }
+    }
+    Ok(shown)
 }
 
 /// The steps that the window has as a sequence diagram for Mermaid: a participant for each process and for each port that has
@@ -290,20 +296,7 @@ pub fn mermaid_text(
     ensures { IfOk result (λ text.
         text.items ≡ mermaid_text window journal.now.head.procs journal.now.entries story.now.told.items) }
 {
-    let entries = journal.entries();
-    let procs = journal.head().procs;
-    let shown = shown_of(alloc, window, procs, &story.told)?;
-    let ports = ports_with_room(alloc, entries, &story.told)?;
-    let mut room = Vec::new(alloc);
     let mut out = PackedText::new(alloc);
-    out.push(HEADING)?;
-    push_numbers(&mut out, &mut room, &Process, procs)?;
-    push_each(&mut out, &mut room, &Buffer, &ports)?;
-    let events = Escaped(Events {
-        entries,
-        shown: &shown,
-        ports: &ports,
-    });
-    push_each(&mut out, &mut room, &events, &shown)?;
+    push_diagram(&mut out, alloc, journal, story, window)?;
     Ok(out)
 }

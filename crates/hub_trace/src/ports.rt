@@ -55,14 +55,23 @@ pub(crate) fn ports_with_room(
 ) -> Result<Vec<Port>, AllocError>
     ensures { IfOk result (λ ports. ports.items ≡ filter_map (made_with_room entries.now) told.now) }
 {
-    told.iter()
-        .filter_map(|told| made_with_room(entries, told))
-        .collect(alloc)
+    let mut ports = Vec::new(alloc);
+    for told in told {
+        if let Some(port) = made_with_room(entries, told) {
+            ports.push(port)?;
+        }
+    }
+    Ok(ports)
 }
 
 /// Whether the port is one of them.
 pub(crate) fn has_room(ports: &[Port], port: Port) -> bool
     ensures { result ≡ has_room ports.now port }
 {
-    ports.iter().any(|other| other.0 == port.0)
+    for other in ports {
+        if other.0 == port.0 {
+            return true;
+        }
+    }
+    false
 }

@@ -5,9 +5,12 @@ ghost use Rattle.hub_story.specs.Stories.{IsShortStoryOf};
 ghost use Rattle.hub_trace.specs.Trace.{event_text, ended_text, is_marked, kind_of, mark_text, marked_text, name_text, slice_text, still_text};
 ghost use Rattle.hub_trace.specs.Trace.{told_text, trace_text};
 
-use crate::pen::{Pen, push_each, push_numbers};
+mod body;
+
+use self::body::push_trace;
+use crate::pen::Pen;
 use crate::pieces::{Piece, number_of, put_pieces};
-use crate::traffic::{Traffic, push_ports};
+use crate::traffic::Traffic;
 use hub_base::{Case, EntryRef, NoMemory, Step, StepRef, What};
 use hub_core::{ShortEntries, ShortJournal};
 use hub_story::{ShortStory, Told};
@@ -188,15 +191,14 @@ pub fn trace_text(
     ensures { IfOk result (λ text.
         text.items ≡ trace_text journal.now.head.procs journal.now.entries story.now.told.items) }
 {
-    let entries = journal.entries();
-    let traffic = Traffic::of(alloc, entries, &story.told)?;
-    let mut room = Vec::new(alloc);
+    let traffic = Traffic::of(alloc, journal.entries(), &story.told)?;
     let mut out = PackedText::new(alloc);
-    out.push(OPENING)?;
-    push_numbers(&mut out, &mut room, &Name, journal.head().procs)?;
-    push_each(&mut out, &mut room, &Events(entries), &story.told)?;
-    push_each(&mut out, &mut room, &Waiting(entries), &story.waiting)?;
-    push_ports(&mut out, &mut room, &traffic)?;
-    out.push(CLOSING)?;
+    push_trace(
+        &mut out,
+        alloc,
+        journal.head().procs,
+        &traffic,
+        &story.waiting,
+    )?;
     Ok(out)
 }

@@ -154,7 +154,11 @@ fn is_out(way: Way) -> bool
 fn received_in(moves: &[Moved]) -> usize
     ensures { result ≡ count_by (λ m. is_out m.way) moves.now }
 {
-    moves.iter().filter(|moved| is_out(moved.way)).count()
+    let mut received = 0;
+    for moved in moves {
+        received += usize::from(is_out(moved.way));
+    }
+    received
 }
 
 /// Appends an end of a flow: of this kind, behind this part of its step, for the value of this number.

@@ -14,7 +14,7 @@ invariant_of-result c =
       explained = (
         First [],
         opened (endless_view c.in_ok-recorder.recorder c.new.result.waiting c.new.result.ended) c.in_ok-recorder.ensures.ok
-    (ap (λ (a : AnswersView). a.waiting) c.new.ensures),
+            (ap (λ (a : AnswersView). a.waiting) c.new.ensures),
       );
       places = ap (λ (a : AnswersView). length a.waiting) c.new.ensures ∙ length-replicate {A = Option Event} MOST_PROCS None;
     }

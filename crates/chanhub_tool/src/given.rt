@@ -30,6 +30,26 @@ fn file_argument<'a>(alloc: Global, help: &'a str) -> Arg<'a> {
     optional(alloc, "file", "FILE", help)
 }
 
+/// The first step that is shown.
+fn from_argument<'a>(alloc: Global) -> Arg<'a> {
+    optional(
+        alloc,
+        "from",
+        "FROM",
+        "The first step shown, counted from 1: step K is line K + 2 of the journal",
+    )
+}
+
+/// The last.
+fn to_argument<'a>(alloc: Global) -> Arg<'a> {
+    optional(
+        alloc,
+        "to",
+        "TO",
+        "The last step shown; without it FROM alone is shown",
+    )
+}
+
 /// The option that is a file to write.
 fn output_option<'a>(alloc: Global) -> Arg<'a> {
     optional(
@@ -63,28 +83,15 @@ pub(crate) fn journal_command<'a>(
     about: &'a str,
     usage: &'a str,
 ) -> Result<Command<'a>, AllocError> {
-    let from = optional(
-        alloc,
-        "from",
-        "FROM",
-        "The first step shown, counted from 1: step K is line K + 2 of the journal",
-    );
-    let to = optional(
-        alloc,
-        "to",
-        "TO",
-        "The last step shown; without it FROM alone is shown",
-    );
-    let file = file_argument(
-        alloc,
-        "The journal; without it, or as -, standard input. A word of digits alone is a step: ./7 is a file",
-    );
     Command::new(alloc, name)
         .about(about)
         .override_usage(usage)
-        .arg(from)?
-        .arg(to)?
-        .arg(file)?
+        .arg(from_argument(alloc))?
+        .arg(to_argument(alloc))?
+        .arg(file_argument(
+            alloc,
+            "The journal; without it, or as -, standard input. A word of digits alone is a step: ./7 is a file",
+        ))?
         .arg(output_option(alloc))
 }
 

@@ -13,7 +13,7 @@ use crate::files::{Input, Output, file_of};
 use crate::given::optional;
 use crate::limits::{DEFAULT_STATES, MOST_STATES};
 use crate::progress::Progress;
-use clap::{ArgMatches, Command};
+use clap::{Arg, ArgMatches, Command};
 use hub_base::{Journal, NoMemory};
 use hub_explore::{Explored, Question, Watch, explore_watched};
 use hub_replay::{
@@ -36,25 +36,36 @@ pub(crate) struct Exploring<'a> {
     journal: Option<&'a str>,
 }
 
-pub(super) fn grammar<'a>(alloc: Global) -> Result<Command<'a>, AllocError> {
-    let scenario = optional(
+fn scenario_argument<'a>(alloc: Global) -> Arg<'a> {
+    optional(
         alloc,
         "scenario",
         "SCENARIO",
         "The scenario; without it, or as -, standard input",
-    );
-    let states = optional(
+    )
+}
+
+fn states_option<'a>(alloc: Global) -> Arg<'a> {
+    optional(
         alloc,
         "states",
         "N",
         "The most states gone through, from 1 to 100000000; without it 1000000",
-    );
-    let journal = optional(
+    )
+    .long("states")
+}
+
+fn journal_option<'a>(alloc: Global) -> Arg<'a> {
+    optional(
         alloc,
         "journal",
         "FILE",
         "Where the journal of a run that stalls is written; - is standard output",
-    );
+    )
+    .long("journal")
+}
+
+pub(super) fn grammar<'a>(alloc: Global) -> Result<Command<'a>, AllocError> {
     Command::new(alloc, "explore")
         .about(
             "Goes through all runs of a scenario, whatever the order of their steps and the choices of their selects, to find one that stalls",
@@ -64,9 +75,9 @@ pub(super) fn grammar<'a>(alloc: Global) -> Result<Command<'a>, AllocError> {
              status 5, after how many states it gave up. The scenario's seed and limit play no part.",
         )
         .override_usage("chanhub_tool explore [SCENARIO] [--states N] [--journal FILE]")
-        .arg(scenario)?
-        .arg(states.long("states"))?
-        .arg(journal.long("journal"))
+        .arg(scenario_argument(alloc))?
+        .arg(states_option(alloc))?
+        .arg(journal_option(alloc))
 }
 
 /// A number of states that can be asked for.

@@ -110,6 +110,8 @@ class Room:
         shutil.copy2(os.path.join(TREE, 'capi', 'Makefile'), self.path('capi', 'Makefile'))
         write(self.path('capi', 'chanhub.c'), 'int chanhub_open(void) { return 0; }\n')
         write(self.path('capi', 'chanhub.h'), 'int chanhub_open(void);\n')
+        os.makedirs(self.path('capi', 'python'))
+        write(self.path('capi', 'python', 'chanhub_calls.c'), 'int PyInit_chanhub_calls(void) { return 0; }\n')
         for crate in LINES:
             write(self.path('crates', crate, 'src', 'main.rt' if crate in PROGRAMS else 'lib.rt'), '//! A crate.\n')
         write(os.path.join(self.kit, 'path', 'rt'), RT.replace('SECONDS', str(SLEEP)), True)

@@ -95,10 +95,10 @@ instructions() {
     valgrind --tool=cachegrind --cache-sim=no --cachegrind-out-file=/dev/null "$work/steps" "$@" 2>&1 | sed -n '/I *refs:/{ s/.*: *//; s/,//g; p; }'
 }
 
-# costs_little: whether a hub that never ends takes at most an eighth more of them than another hub, with its cuts.
+# costs_little: whether a hub that never ends takes at most a tenth more of them than another hub, with its cuts.
 costs_little() {
     ends=$(instructions ends 200000) && endless=$(instructions endless 200000 100000) && echo "$ends and $endless" &&
-        [ "$endless" -le $((ends / 8 * 9)) ]
+        [ "$endless" -le $((ends / 10 * 11)) ]
 }
 
 # chooses COMMAND..: whether the command of a choice prints what it must, in whatever order its words chose.

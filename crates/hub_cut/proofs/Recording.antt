@@ -9,11 +9,13 @@ use Rattle.hub_base.specs.declared.fault.Fault.TheVariants as fault
 use Rattle.hub_base.specs.declared.limits.TheConstants.{MOST_STEPS, MOST_PORTS}
 use Rattle.hub_base.specs.Journal.{JournalView}
 use Rattle.hub_base.specs.Head.{IsHead}
+use Rattle.hub_base.specs.Text.{Fits}
+use Rattle.hub_base.specs.declared.head.Edition.{Edition}
 use Rattle.hub_laws.specs.Journals.{IsLegal}
 use Rattle.hub_laws.proofs.Lasting.{ports-law}
 use Rattle.hub_laws.proofs.Journals.{begins-law}
 use Rattle.hub_laws.proofs.Limits.{limits-law}
-use Rattle.hub_core.specs.HubView.{HubView, Steps, Refuses, with_entry, state_of}
+use Rattle.hub_core.specs.HubView.{HubView, ShortInMemory, Steps, Refuses, with_entry, state_of}
 use Rattle.hub_core.specs.Looks.{look_at, counts_of}
 use Rattle.hub_chapters.specs.Alike.{afresh}
 use Rattle.hub_chapters.specs.Carried.{base_count, received_count}
@@ -25,13 +27,15 @@ use Rattle.hub_chapters.proofs.Steps.{refusal-like}
 use Rattle.hub_chapters.proofs.Checkpoints.{checkpoint-law}
 use Rattle.hub_chapters.proofs.Chapters.{last-alike, chapters-law}
 use Rattle.hub_chapters.proofs.Counts.{carried-law}
-use Rattle.hub_cut.specs.declared.limits.TheConstants.{CHAPTER_BYTES}
+use Rattle.hub_cut.specs.declared.limits.TheConstants.{CHAPTER_BYTES, MOST_LINE_BYTES}
+use Rattle.hub_cut.specs.declared.recorder.Recorder.TheInside.{Inside}
+use Rattle.hub_cut.specs.RecorderKeeps.{RecorderKeeps, shown}
 use Rattle.hub_cut.specs.ChapterText.{most_line, counted, counted_in}
 use Rattle.hub_cut.specs.Cut.{CutsAndSteps, IsCut, Refused}
 use Rattle.hub_cut.specs.Totals.{in_64_bits, totals_of, totals_at, with_base}
 use Rattle.hub_cut.specs.Recorder.{IsRecorder, IsShort, RecorderView, Records, RecordsStep, RefusesStep, head_of_all, is_full}
-use Rattle.hub_cut.specs.Recorder.{since_cut, with_next, IsKeep, is_full_at, chapter_out, begins, out_or}
-use Rattle.hub_cut.proofs.ChapterTexts.{counted_in-append}
+use Rattle.hub_cut.specs.Recorder.{since_cut, with_next, hub_in, IsKeep, is_full_at, chapter_out, begins, out_or}
+use Rattle.hub_cut.proofs.ChapterTexts.{counted_in-append, counts_longer}
 use Rattle.hub_cut.proofs.Parts.{steps-append}
 
 -- The last chapter, and the history
@@ -166,28 +170,91 @@ records_next (Cut chapters later) r e so admitted room =
       bases = so.bases;
     }
 
-pub goes_next : (r : RecorderView) (e : Entry) (told : List Event) (new : HubView) → begins r e.step ≡ false → Steps r.hub e new told →
-    RecordsStep r e (record {
+-- the same, where the counts are known
+pub records_counted : (chapters : Chapters) (r : RecorderView) (e : Entry) (new : HubView) (fresh bytes : ℕ) → Records chapters r
+    → refusal (state_of r.hub) e.pid ≡ None → begins r e.step ≡ false → new ≡ with_entry e r.hub → fresh ≡ r.fresh + one_step e
+    → bytes ≡ r.bytes + counted e
+    → Records (with_next false chapters e) (record {
       hub = new;
       before = r.before;
       keep = r.keep;
-      fresh = r.fresh + one_step e;
-      bytes = r.bytes + counted e;
+      fresh = fresh;
+      bytes = bytes;
+      early = r.early;
+      bases = r.bases;
+    })
+records_counted chapters r e new fresh bytes so admitted room is steps more = rw (is, steps, more) (records_next chapters r e so admitted room)
+
+-- an entry that is no exit counts, and an exit does not
+pub one_counts : (e : Entry) (n m l : ℕ) → is_exit e.step ≡ false → l ≡ most_line e → (n + 1 ≡ n + one_step e) × (m + l ≡ m + counted e)
+one_counts e n m l is long =
+    (ap (λ b. n + cond b 0 1) (sym is), ap (λ k. m + k) long ∙ ap (λ b. m + cond b 0 (most_line e)) (sym is))
+
+pub none_counts : (e : Entry) (n m : ℕ) → is_exit e.step ≡ true → (n ≡ n + one_step e) × (m ≡ m + counted e)
+none_counts e n m is =
+    let zero : n ≡ n + 0 = omega arith in
+    let none : m ≡ m + 0 = omega arith in
+    (zero ∙ ap (λ b. n + cond b 0 1) (sym is), none ∙ ap (λ b. m + cond b 0 (most_line e)) (sym is))
+
+pub goes_next : (r : RecorderView) (e : Entry) (told : List Event) (new : HubView) (fresh bytes : ℕ) → begins r e.step ≡ false
+    → Steps r.hub e new told → fresh ≡ r.fresh + one_step e → bytes ≡ r.bytes + counted e
+    → RecordsStep r e (record {
+      hub = new;
+      before = r.before;
+      keep = r.keep;
+      fresh = fresh;
+      bytes = bytes;
       early = r.early;
       bases = r.bases;
     }) told
-goes_next r e told new full s =
+goes_next r e told new fresh bytes full s steps more =
     let h : Head = head_of_all r in
     record {
       goes_on = λ chapters so. record {
         admitted = sym (refused_alike h chapters r.hub.journal e.pid so.present) ∙ s.admitted;
         events = s.events ∙ told_alike h chapters r.hub.journal e so.present;
         history = history_next (begins r e.step) chapters e;
-        records = rw (full, s.journal) (records_next chapters r e so s.admitted full);
+        records = rw full (records_counted chapters r e new fresh bytes so s.admitted full s.journal steps more);
       };
       terms = ap (λ (x : HubView). x.terms) s.journal;
       keep = refl;
       early = rw full refl;
+    }
+
+pub few_counted : (e : Entry) (l : ℕ) → l ≡ most_line e → l ≤ MOST_LINE_BYTES → counted e ≤ MOST_LINE_BYTES
+few_counted e l long few = by (is_exit e.step)
+  where
+    by : (b : Bool) → cond b 0 (most_line e) ≤ MOST_LINE_BYTES
+    by true = omega arith
+    by false = omega (arith, long, few)
+
+-- what a recorder keeps, with such an entry more
+pub keeps_next : (r : Inside) (e : Entry) (hub : ShortInMemory) (told : List Event) (fresh bytes : ℕ) (edition : Edition) → RecorderKeeps r
+    → begins (shown r) e.step ≡ false → Steps (hub_in r.hub) e (hub_in hub) told → fresh ≡ r.fresh + one_step e → bytes ≡ r.bytes + counted e
+    → Fits edition e → counted e ≤ MOST_LINE_BYTES
+    → RecorderKeeps (record {
+      alloc = r.alloc;
+      hub = hub;
+      before = r.before;
+      keep = r.keep;
+      fresh = fresh;
+      bytes = bytes;
+      early = r.early;
+      bases = r.bases;
+    })
+keeps_next r e hub told fresh bytes edition k room s steps more fits few =
+    let terms = ap (λ (h : HubView). h.terms) s.journal in
+    record {
+      head = rw terms k.head;
+      limit = rw terms k.limit;
+      keep = k.keep;
+      recorder = (
+        with_next false k.recorder.0 e,
+        records_counted k.recorder.0 (shown r) e (hub_in hub) fresh bytes k.recorder.1 s.admitted room s.journal steps more,
+      );
+      lines = rw (ap (λ (h : HubView). h.journal) s.journal, more) (counts_longer (hub_in r.hub).journal e edition r.bytes fits k.lines);
+      bytes = rw more (bytes_below (shown r) e (counted e) MOST_LINE_BYTES refl few k.bytes room);
+      text_before = k.text_before;
     }
 
 -- A step behind a cut

@@ -21,7 +21,7 @@ ghost use Rattle.hub_cut.specs.Totals.{totals_at};
 use crate::Totals;
 use crate::cuts::{cut_and_step, cut_short};
 use crate::limits::CHAPTER_BYTES;
-use crate::texts::{most_line, share_of};
+use crate::texts::most_line;
 use crate::totals::{PORT_PLACES, add_received, base_of, no_bases, with_base};
 use hub_base::{Edition, EntryRef, Fault, Hears, MOST_STEPS, NoMemory, Port, StepRef};
 use hub_core::{Hub, OpenFault, ShortHub};
@@ -155,9 +155,11 @@ impl Recorder {
         ensures silent { OnErr result (events.new ≡ events.old) }
     {
         self.hub.step_heard(entry, events)?;
-        let share = share_of(self.hub.head().edition, entry);
-        self.fresh += share.steps;
-        self.bytes += share.bytes;
+        let bytes = most_line(self.hub.head().edition, entry);
+        if !entry.step.is_exit() {
+            self.fresh += 1;
+            self.bytes += bytes;
+        }
         Ok(())
     }
 

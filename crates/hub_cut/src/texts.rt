@@ -10,14 +10,6 @@ ghost use Rattle.hub_cut.specs.ChapterText.{counted, most_line};
 use crate::limits::{CASE_BYTES, LINE_BYTES, MOST_LINE_BYTES};
 use hub_base::{Edition, Entry, EntryRef};
 
-/// How much an entry counts towards a full chapter. An exit counts nothing.
-#[derive(Clone, Copy)]
-pub(crate) struct Share {
-    pub(crate) steps: u32,
-    /// The most bytes that its line can have.
-    pub(crate) bytes: u32,
-}
-
 /// The most bytes that the entry's line can have.
 pub(crate) fn most_line(edition: Edition, entry: &EntryRef<'_>) -> u32
     requires fits { is_of edition entry.now.step ≡ true }
@@ -27,21 +19,6 @@ pub(crate) fn most_line(edition: Edition, entry: &EntryRef<'_>) -> u32
 {
     let _fits = entry.fits(edition);
     LINE_BYTES + CASE_BYTES * entry.step.cases().len() as u32
-}
-
-/// How much an entry counts.
-pub(crate) fn share_of(edition: Edition, entry: &EntryRef<'_>) -> Share
-    requires fits { is_of edition entry.now.step ≡ true }
-    ensures steps { result.steps ≡ one_step entry.now }
-    ensures bytes { result.bytes ≡ counted entry.now }
-    ensures few { result.bytes ≤ MOST_LINE_BYTES }
-    ensures fits { Fits edition entry.now }
-{
-    let bytes = most_line(edition, entry);
-    if entry.step.is_exit() {
-        return Share { steps: 0, bytes: 0 };
-    }
-    Share { steps: 1, bytes }
 }
 
 /// Shows that a text can have a line of each of these entries. It changes nothing.

@@ -1,11 +1,8 @@
-use Rattle.std.proofs.Common.{◌≡◌, ap, sym, subst, false}
+use Rattle.std.proofs.Common.{◌≡◌, ◌∙◌, ◌+◌, ap, sym, subst, false, true}
 use Rattle.std.proofs.lemmas.Result.{err_from_is_err_and}
-use Rattle.hub_core.specs.HubView.{HubView}
-use Rattle.hub_cut.specs.declared.limits.TheConstants.{MOST_LINE_BYTES}
-use Rattle.hub_cut.specs.Recorder.{RecorderView, begins, with_next}
+use Rattle.hub_cut.specs.Recorder.{RecorderView, begins}
 use Rattle.hub_cut.specs.RecorderKeeps.{shown}
-use Rattle.hub_cut.proofs.ChapterTexts.{counts_longer}
-use Rattle.hub_cut.proofs.Recording.{bytes_below, goes_next, refuses_next, records_next}
+use Rattle.hub_cut.proofs.Recording.{few_counted, goes_next, keeps_next, none_counts, one_counts, refuses_next}
 use Rattle.hub_cut.proofs.recorder.Recorder.go_on.Goals as goal
 
 pub returns-in_err-step_heard-clause-refused : goal.returns-in_err-step_heard-clause-refused
@@ -18,38 +15,54 @@ returns-in_err-step_heard-clause-refused g c =
     (refuses_next old e c.in_err-step_heard.field-0.0 c.self.invariant.head c.self.invariant.limit c.self.invariant.keep
     room c.in_err-step_heard.ensures.rules.refused)
 
-pub invariant_of-self-2 : goal.invariant_of-self-2
-invariant_of-self-2 g c =
-    let steps = c.in_ok-step_heard.ensures.ok.steps in
-    let old = shown c.self.inside in
+pub invariant_of-self-then-not-is_exit : goal.invariant_of-self-then-not-is_exit
+invariant_of-self-then-not-is_exit g c =
     let e = c.args.entry.now in
+    let old = shown c.self.inside in
     let room : begins old e.step ≡ false = subst (λ (r : RecorderView). begins r e.step ≡ false) (sym c.self.view_is) c.requires.room in
-    let terms = ap (λ (h : HubView). h.terms) steps.journal in
-    record {
-      head = rw terms c.self.invariant.head;
-      limit = rw terms c.self.invariant.limit;
-      keep = c.self.invariant.keep;
-      recorder = (
-        with_next false c.self.invariant.recorder.0 e,
-        rw (steps.journal, c.share_of-share.ensures.steps, c.share_of-share.ensures.bytes)
-            (records_next c.self.invariant.recorder.0 old e c.self.invariant.recorder.1 steps.admitted room),
-      );
-      lines = rw (ap (λ (h : HubView). h.journal) steps.journal, c.share_of-share.ensures.bytes)
-          (counts_longer old.hub.journal e c.head.result.edition old.bytes c.share_of-share.ensures.fits c.self.invariant.lines);
-      bytes = bytes_below old e c.share_of-share.result.bytes MOST_LINE_BYTES c.share_of-share.ensures.bytes c.share_of-share.ensures.few
-          c.self.invariant.bytes room;
-      text_before = c.self.invariant.text_before;
-    }
+    let is = sym c.is_exit.ensures ∙ c.if-not-is_exit.true in
+    let counts = one_counts e old.fresh old.bytes c.most_line-bytes.result is c.most_line-bytes.ensures.most in
+    keeps_next c.self.inside e c.step_heard.new.self c.in_ok-step_heard.ensures.ok.told (old.fresh + 1) (old.bytes + c.most_line-bytes.result) c.head.result.edition
+    c.self.invariant room c.in_ok-step_heard.ensures.ok.steps counts.0 counts.1 c.most_line-bytes.ensures.fits
+    (few_counted e c.most_line-bytes.result c.most_line-bytes.ensures.most c.most_line-bytes.ensures.few)
 
-pub returns-clause-ok : goal.returns-clause-ok
-returns-clause-ok g c =
-    let old = shown c.self.inside in
+pub returns-then-not-is_exit-clause-ok : goal.returns-then-not-is_exit-clause-ok
+returns-then-not-is_exit-clause-ok g c =
     let e = c.args.entry.now in
+    let old = shown c.self.inside in
     let room : begins old e.step ≡ false = subst (λ (r : RecorderView). begins r e.step ≡ false) (sym c.self.view_is) c.requires.room in
+    let is = sym c.is_exit.ensures ∙ c.if-not-is_exit.true in
+    let counts = one_counts e old.fresh old.bytes c.most_line-bytes.result is c.most_line-bytes.ensures.most in
     let next = c.in_ok-step_heard.ensures.ok in
     record {
       told = next.told;
       heard = next.heard;
-      holds = rw (← c.self.view_is, c.share_of-share.ensures.steps, c.share_of-share.ensures.bytes)
-          (goes_next old e next.told c.step_heard.new.self.memory.hub room next.steps);
+      holds = rw (← c.self.view_is)
+          (goes_next old e next.told c.step_heard.new.self.memory.hub (old.fresh + 1) (old.bytes + c.most_line-bytes.result) room next.steps counts.0 counts.1);
+    }
+
+pub invariant_of-self-else-not-is_exit : goal.invariant_of-self-else-not-is_exit
+invariant_of-self-else-not-is_exit g c =
+    let e = c.args.entry.now in
+    let old = shown c.self.inside in
+    let room : begins old e.step ≡ false = subst (λ (r : RecorderView). begins r e.step ≡ false) (sym c.self.view_is) c.requires.room in
+    let is = sym c.is_exit.ensures ∙ c.if-not-is_exit.false in
+    let counts = none_counts e old.fresh old.bytes is in
+    keeps_next c.self.inside e c.step_heard.new.self c.in_ok-step_heard.ensures.ok.told old.fresh old.bytes c.head.result.edition
+    c.self.invariant room c.in_ok-step_heard.ensures.ok.steps counts.0 counts.1 c.most_line-bytes.ensures.fits
+    (few_counted e c.most_line-bytes.result c.most_line-bytes.ensures.most c.most_line-bytes.ensures.few)
+
+pub returns-else-not-is_exit-clause-ok : goal.returns-else-not-is_exit-clause-ok
+returns-else-not-is_exit-clause-ok g c =
+    let e = c.args.entry.now in
+    let old = shown c.self.inside in
+    let room : begins old e.step ≡ false = subst (λ (r : RecorderView). begins r e.step ≡ false) (sym c.self.view_is) c.requires.room in
+    let is = sym c.is_exit.ensures ∙ c.if-not-is_exit.false in
+    let counts = none_counts e old.fresh old.bytes is in
+    let next = c.in_ok-step_heard.ensures.ok in
+    record {
+      told = next.told;
+      heard = next.heard;
+      holds = rw (← c.self.view_is)
+          (goes_next old e next.told c.step_heard.new.self.memory.hub old.fresh old.bytes room next.steps counts.0 counts.1);
     }

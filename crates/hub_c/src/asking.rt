@@ -81,7 +81,7 @@ pub(crate) fn are_cases(cases: &[CaseC]) -> bool
 }
 
 /// Puts the case that a struct says behind those of a list with room for it. A receive is short: nothing stands in the place
-/// of a value, so none is copied.
+/// of a value, so none is copied; and a number is written where it goes, without a way by bytes that it might have been.
 #[inline(always)]
 fn put_case<const PLACES: usize>(case: &CaseC, list: &mut ArrayVec<Case, PLACES>)
     requires { length list.old.items < PLACES }
@@ -90,8 +90,10 @@ fn put_case<const PLACES: usize>(case: &CaseC, list: &mut ArrayVec<Case, PLACES>
     let port = Port(case.port);
     if !is_true(case.sends) {
         list.push(Case::Recv(port));
-    } else {
+    } else if is_true(case.value.is_bytes) {
         list.push(Case::Send(port, value_in(&case.value)));
+    } else {
+        list.push(Case::Send(port, Value::num(case.value.number)));
     }
 }
 

@@ -76,7 +76,7 @@ pub(crate) fn hold(out: &mut Option<ShortHub>, hands_out: bool)
 
 /// Makes a step of a hub that never ends, and tells what it came to. While a chapter waits to be read, no other can follow
 /// it: a step that would hand one out is refused for want of memory.
-#[inline(never)]
+#[inline(always)]
 fn step_endless(
     hub: &mut EndlessHub,
     out: &mut Option<ShortHub>,

@@ -75,6 +75,9 @@ impl EndlessHub {
     ///
     /// The only refusals are `NoProcess`, `Gone`, `Busy` and `NoMemory`, tested in this order; an exit is never refused by
     /// `NoMemory`. After a refusal nothing has changed.
+    ///
+    /// It is inlined, so that the answer is not copied on its way to the caller.
+    #[inline(always)]
     pub fn step(&mut self, entry: &EntryRef<'_>, out: &mut Option<ShortHub>) -> Result<Event, Fault>
         requires fits { is_of (head_of_all self.old.recorder).edition entry.now.step ≡ true }
         requires empty { begins self.old.recorder entry.now.step ≡ true → out.old ≡ None }

@@ -272,14 +272,29 @@ static chanhub_told fault(uint8_t number) {
 
 /* ---- The lock. ---- */
 
-/* The time in ticks of the processor, some 2 to 4 in a nanosecond. It is for waits that are short, and are guesses. */
+/* The time in ticks, some 2 to 4 in a nanosecond. It is for waits that are short, and are guesses. */
 static inline uint64_t ticks(void) {
+#ifdef __x86_64__
     return __builtin_ia32_rdtsc();
+#else
+    struct timespec now;
+    clock_gettime(CLOCK_MONOTONIC, &now);
+    return 2 * ((uint64_t)now.tv_sec * BILLION + (uint64_t)now.tv_nsec);
+#endif
+}
+
+/* Tells the processor that the thread looks again and again. */
+static inline void pause_once(void) {
+#if defined __x86_64__
+    __builtin_ia32_pause();
+#elif defined __aarch64__
+    __asm__ volatile("yield");
+#endif
 }
 
 static void pause_for(uint64_t length) {
     uint64_t begun = ticks();
-    do __builtin_ia32_pause();
+    do pause_once();
     while (ticks() - begun < length);
 }
 
@@ -408,7 +423,7 @@ static bool begins_with_looks(struct place *mine, uint64_t end) {
 static void look_for_wake(chanhub *h, struct place *mine) {
     uint64_t begun = ticks();
     leave_lock(h);
-    for (unsigned i = 1; !atomic_load(&mine->told) && (i % LOOKS || ticks() - begun < LOOK_TICKS); i++) __builtin_ia32_pause();
+    for (unsigned i = 1; !atomic_load(&mine->told) && (i % LOOKS || ticks() - begun < LOOK_TICKS); i++) pause_once();
     take_lock(h);
 }
 

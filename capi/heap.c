@@ -2,7 +2,8 @@
  *
  * A hub reserves more than it ever writes to, which takes no memory while it lies in new pages. malloc gives new pages to a large
  * block, but no longer once one of that size was freed, and then its realloc copies what was reserved. It also keeps what is freed for
- * each thread. A hub that never ends frees as much as it allocates, so it would hold ten times the memory that it needs.
+ * each thread. A hub that never ends frees as much as it allocates, so it would hold ten times the memory that it needs; and half as
+ * much again, which grows slowly, if blocks were malloc's as long as they have less than 128 KB.
  */
 #define _GNU_SOURCE /* for mremap */
 #include "heap.h"
@@ -18,7 +19,7 @@ struct head {
     _Alignas(16) size_t size; /* of the block and this */
 };
 
-static const size_t LARGE = 128 * 1024, MOST = PTRDIFF_MAX - sizeof(struct head);
+static const size_t LARGE = 16 * 1024, MOST = PTRDIFF_MAX - sizeof(struct head);
 
 static struct head *head_of(void *at) {
     return (struct head *)at - 1;
@@ -69,3 +70,30 @@ void heap_free(void *at) {
     if (head->size < LARGE) free(head);
     else munmap(head, head->size);
 }
+
+#ifndef __x86_64__
+/* What the proved code asks for memory by, on machines for which the toolchain does not bring it: where there is none, the block is no
+ * null pointer either. A block of no size stands where its alignment says. */
+struct asked {
+    bool given;
+    void *at;
+};
+
+static struct asked asked(void *at) {
+    static char none[16];
+    return (struct asked){ .given = at, .at = at ? at : none };
+}
+
+struct asked rattle_alloc(size_t size, size_t alignment) {
+    return asked(heap_alloc(size ? size : alignment));
+}
+
+struct asked rattle_realloc(void *at, size_t held, size_t size, size_t alignment) {
+    (void)held;
+    return asked(heap_realloc(at, size ? size : alignment));
+}
+
+void rattle_dealloc(void *at) {
+    heap_free(at);
+}
+#endif

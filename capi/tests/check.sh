@@ -243,7 +243,7 @@ check '16 threads without an end' soaks soak 3
 heap='-Wl,--wrap=malloc,--wrap=realloc,--wrap=mmap,--wrap=mremap heap.c'
 check 'heap builds' "$cc" $flags $heap tests/heap.c -o "$work/heap"
 check 'large and small blocks' "$work/heap"
-check 'refuse builds' "$cc" $flags -Wl,--wrap=malloc,--wrap=calloc,--wrap=realloc tests/refuse.c out/libchanhub.a -lpthread -o "$work/refuse"
+check 'refuse builds' "$cc" $flags -Wl,--wrap=malloc,--wrap=calloc,--wrap=realloc,--wrap=mmap,--wrap=mremap tests/refuse.c out/libchanhub.a -lpthread -o "$work/refuse"
 check 'each allocation refused' "$work/refuse"
 for example in pool deadlock choice forever timeout; do
     check "$example.c builds" "$cc" $flags "examples/$example.c" out/libchanhub.a -lpthread -o "$work/$example"

@@ -8,7 +8,7 @@
 #include <stdlib.h>
 #include <sys/mman.h>
 
-enum { BLOCKS = 40, ROUNDS = 20000, LARGE = 128 * 1024, MOST = 3 * LARGE };
+enum { BLOCKS = 40, ROUNDS = 20000, LARGE = 16 * 1024, MOST = 3 * LARGE };
 
 static bool refuses;
 static unsigned refused, mapped;

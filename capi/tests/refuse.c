@@ -1,13 +1,14 @@
 /* Each allocation refused in turn: what wanted it says so and changes nothing, and what comes next succeeds. Of a hub that never ends
  * each chapter is handed out, or NULL where the allocation was one for its text.
  *
- * Linked with --wrap for malloc, calloc and realloc.
+ * Linked with --wrap for malloc, calloc, realloc, mmap and mremap.
  */
 #include "chanhub.h"
 
 #include <stdio.h>
 #include <stdlib.h>
 #include <string.h>
+#include <sys/mman.h>
 
 static long left = -1; /* how many allocations succeed before one is refused; below 0: none is */
 static int refused;
@@ -25,6 +26,14 @@ void *__real_realloc(void *at, size_t size);
 void *__wrap_malloc(size_t size) { return is_refused() ? NULL : __real_malloc(size); }
 void *__wrap_calloc(size_t count, size_t size) { return is_refused() ? NULL : __real_calloc(count, size); }
 void *__wrap_realloc(void *at, size_t size) { return is_refused() ? NULL : __real_realloc(at, size); }
+void *__real_mmap(void *at, size_t size, int access, int kind, int file, off_t from);
+void *__real_mremap(void *at, size_t old, size_t size, int flags);
+void *__wrap_mmap(void *at, size_t size, int access, int kind, int file, off_t from) {
+    return is_refused() ? MAP_FAILED : __real_mmap(at, size, access, kind, file, from);
+}
+void *__wrap_mremap(void *at, size_t old, size_t size, int flags) {
+    return is_refused() ? MAP_FAILED : __real_mremap(at, old, size, flags);
+}
 
 static const char wanted[] =
     "chanhub journal 2\nprocs 2\n0 make 3\n0 send 1 7\n0 make 0\n0 select 0 s1:#6162 s2:1\n1 recv 1\n1 exit\n0 exit\n";

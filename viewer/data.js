@@ -1,20 +1,17 @@
 "use strict";
-// Reads the data of the page, which README.md defines: the sketches at once, and the steps of a block when they are asked for.
+// Reads the data of the page, which README.md defines: all of them once, to count, and the steps of a block when they are asked for.
 // Steps are counted from 0 here, and from 1 in what is shown.
 const BLOCK = 64;
 const MOST_READ = 300;  // so many blocks stay read
-const WORDS = { m: "make", s: "send", r: "recv", "?": "select", c: "close", x: "cancel", e: "exit" };
+const LETTERS = { make: "m", send: "s", recv: "r", select: "?", close: "c", cancel: "x", exit: "e" };
 const ENDS = { s: "sent", g: "got", d: "drained", c: "closed", D: "default", k: "done", S: "stalled", x: "cancelled", m: "made", f: "fault" };
 const STILL_WAITS = { by: Infinity, letter: "", number: 0 };
-const COUNTS = { w: "waited", a: "asked", t: "troubles" }, NEVER = 0xffffffff;
+const NEVER = 0xffffffff, NEWLINE = 10, SEMICOLON = 59, AT = 64;
 
 class Step {
-    constructor(journal, place, entry) {
-        this.journal = journal;
-        this.place = place;
-        this.pid = parseInt(entry, 10);
-        this.letter = entry[String(this.pid).length];
-        this.more = entry.slice(String(this.pid).length + 1);
+    constructor(journal, place, line) {
+        const [pid, word, ...more] = line.split(" ");
+        Object.assign(this, { journal, place, line, pid: Number(pid), letter: LETTERS[word], more });
     }
     // By which step it ended and how: a letter of ENDS, and the number of the case, of the port made or of the fault.
     get end() { return this.known ??= this.journal.endOf(this); }
@@ -26,8 +23,8 @@ class Step {
     get lane() { return Math.min(this.pid, this.journal.procs); }
     // The cases as a select spells them.
     get cases() {
-        if (this.letter === "?") return this.more.match(/[rs][^rs!]+/g) ?? [];
-        return "sr".includes(this.letter) ? [this.letter + this.more] : [];
+        if (this.letter === "?") return this.more.slice(1).filter((field) => field !== "default");
+        return "sr".includes(this.letter) ? [this.letter + this.more.join(":")] : [];
     }
     // The case that fired, or the only one of a call that waits: its side, its port and what it sends.
     get shown() { return this.fired ??= this.findShown(); }
@@ -41,10 +38,6 @@ class Step {
     get receiver() { return this.endsBy("g") ? this : this.endsBy("s") ? this.journal.receiverOf(this) : null; }
     get partner() { return this.endsBy("g") ? this.sender : this.receiver; }
     get value() { return this.sender?.shown.value ?? null; }
-    get line() {
-        if (this.letter !== "?") return [this.pid, WORDS[this.letter], ...this.more.split(":")].join(" ").trim();
-        return [this.pid, "select", /^\d+/.exec(this.more), ...this.cases].join(" ") + (this.more.endsWith("!") ? " default" : "");
-    }
     get answer() {
         const { letter, number } = this.end, reason = letter === "f" && document.querySelector(`#faults li:nth-child(${number})`).textContent;
         if (!letter) return "waits to the end";
@@ -52,21 +45,45 @@ class Step {
     }
     get title() { return `step ${this.place + 1}: ${this.line}\n${this.answer}${this.waits ? `, waited ${this.waited}` : ""}`; }
     // The port of which it has the colour; 0 for none.
-    get port() { return { f: 0, m: this.end.number }[this.end.letter] ?? (this.letter === "c" ? Number(this.more) : this.shown.port); }
-    get ports() { return this.letter === "c" ? [Number(this.more)] : [this.port, ...this.cases.map((text) => parseInt(text.slice(1), 10))]; }
+    get port() { return { f: 0, m: this.end.number }[this.end.letter] ?? (this.letter === "c" ? Number(this.more[0]) : this.shown.port); }
+    get ports() { return this.letter === "c" ? [Number(this.more[0])] : [this.port, ...this.cases.map((text) => parseInt(text.slice(1), 10))]; }
     // A short name, as on the boxes of a picture.
     get label() {
         if (this.endsBy("fm")) return this.end.letter + this.end.number;
         if (this.endsBy("D")) return "def";
-        return this.shown.side ? this.shown.side + this.shown.port : { "?": "?", e: "exit" }[this.letter] ?? this.letter + this.more;
+        return this.shown.side ? this.shown.side + this.shown.port : { "?": "?", e: "exit" }[this.letter] ?? this.letter + this.more[0];
     }
 }
 
-// What the lines of a block tell: its steps; the ends to which steps came by them; the receivers, by senders; levels and stalls.
+// A step that stalls calls, and which steps moved values last, by the numbers of ports.
+class Stall {
+    constructor(journal, place, senders, receivers) { Object.assign(this, { journal, place, calls: [], senders: [...senders], receivers: [...receivers] }); }
+    get steps() { return this.calls.map((call) => this.journal.step(call)); }
+    // The steps that were the last to send and to receive there; null for nobody.
+    moversOf(port) { return [this.senders, this.receivers].map(({ [port]: place }) => (place === NEVER ? null : place)); }
+    get last() {
+        const ports = new Set(this.steps.flatMap((step) => step.cases.map((text) => parseInt(text.slice(1), 10))));
+        return [...ports].filter(Boolean).sort((one, other) => one - other).map((port) => [port, ...this.moversOf(port)]);
+    }
+    // Who perhaps waits for whom: of the last movers on its port the first that is stalled too and does not wait for the same.
+    get guesses() {
+        const { steps } = this, offers = new Map(steps.map((step) => [step.pid, step.cases.map((text) => text.split(":")[0])]));
+        const whom = (pid, offer) => {
+            const movers = this.moversOf(Number(offer.slice(1))), others = offer[0] === "r" ? movers : movers.reverse();
+            const isWanted = (other) => other !== pid && offers.has(other) && !offers.get(other).includes(offer);
+            return others.map((place) => (place === null ? null : this.journal.step(place).pid)).find(isWanted);
+        };
+        const pairs = [...offers].flatMap(([pid, own]) => own.map((offer) => [pid, whom(pid, offer)])).filter(([, other]) => other !== undefined);
+        return [...new Map(pairs.map((pair) => [pair.join(), pair])).values()];
+    }
+}
+
+// What the lines of a block tell: its steps; the ends to which steps came by them; levels and stalls.
 class Block {
     constructor(journal, at) {
-        Object.assign(this, { steps: [], ends: new Map(), receivers: new Map(), levels: [], stalls: {} });
-        for (const line of journal.text.slice(...journal.bounds[at]).split("\n")) {
+        const [senders, receivers] = [journal.senders, journal.receivers].map((table) => table.slice(at * journal.width, (at + 1) * journal.width));
+        Object.assign(this, { journal, steps: [], ends: new Map(), levels: [], stalls: {}, senders, receivers });
+        for (const line of journal.text.slice(journal.bounds[at], journal.bounds[at + 1] - 1).split("\n")) {
             const [entry, ...items] = line.split(";"), place = at * BLOCK + this.steps.length;
             this.steps.push(new Step(journal, place, entry));
             for (const item of items) this.readItem(place, item);
@@ -74,62 +91,35 @@ class Block {
     }
     readItem(place, item) {
         const [, first, letter, second, third] = /^(\d*)(\D)(\d*)\D?(\d*)$/.exec(item), number = Number(second), call = place - first;
-        if (letter === ":") return this.levels.push({ port: Number(first), from: place, count: number });
-        if (letter === ">") return this.stall(place).guesses.push([Number(first), number]);
-        if (letter === "L") return this.stall(place).last.push([Number(first), ...[second, third].map((back) => (back > 0 ? place - back : null))]);
-        if (letter === "S") this.stall(place).calls.push(call);
-        if (letter === "g") this.receivers.set(place - third, call);
+        if (letter === ":") {
+            (this.moved.letter === "s" ? this.senders : this.receivers)[first] = this.moved.call;
+            return this.levels.push({ port: Number(first), from: place, count: number });
+        }
+        if (letter === "S") (this.stalls[place] ??= new Stall(this.journal, place, this.senders, this.receivers)).calls.push(call);
+        this.moved = { call, letter };
         this.ends.set(call, { by: place, letter, number, sender: place - third });
     }
-    stall(place) { return this.stalls[place] ??= { place, calls: [], guesses: [], last: [] }; }
 }
 
 class Journal {
     constructor(text) {
-        this.text = text;
-        // steps, procs, rooms of ports, and of processes how long they waited and where they exited
-        Object.assign(this, JSON.parse(text.slice(text.lastIndexOf("=") + 1)));
-        [this.blocks, this.lanes, this.ports] = [Math.ceil(this.steps / BLOCK), this.waits.length, this.rooms.length];
-        const tables = (width, names) => names.forEach((name) => (this[name] = new Uint32Array((this.blocks + 1) * width)));
-        // By block and lane: for how many steps the process waited, asked and had trouble before; and how long it waits when the block ends.
-        tables(this.lanes, ["waited", "asked", "troubles", "open"]);
-        // By block and port: how much it holds at most, and before; and by which step the oldest came that it holds when the block ends.
-        tables(this.ports, ["most", "level", "oldest"]);
-        // The steps that stalled calls; where the steps of each block stand in the text; and the blocks that are read.
-        Object.assign(this, { stalls: [], bounds: [], read: new Map() });
-        this.readSketches();
+        const steps = text.split("\n").length - 3, lanes = Number(/procs (\d+)/.exec(text)[1]) + 1, width = (text.match(/;0m/g) ?? []).length + 1;
+        Object.assign(this, { text, steps, procs: lanes - 1, lanes, width, ports: width - 1, blocks: Math.ceil(steps / BLOCK) });
+        const tables = (size, names) => names.forEach((name) => (this[name] = new Uint32Array(size)));
+        // By step: by which other one it ended; and which call received what it sent.
+        tables(steps, ["by", "receiver"]);
+        // By block and lane: for how many steps the process waited, asked and had trouble before; and which call waits when the block ends.
+        tables((this.blocks + 1) * lanes, ["waited", "asked", "troubles", "open"]);
+        // By block and port: how much it holds at most, and before; and which steps moved values last before.
+        tables((this.blocks + 1) * width, ["most", "level", "senders", "receivers"]);
+        for (const name of ["by", "receiver", "open", "senders", "receivers"]) this[name].fill(NEVER);
+        // The steps that stalled calls; where blocks begin in the text; of ports their rooms, or 0 where nothing was held; of processes where
+        // they exited; and the blocks that are read.
+        Object.assign(this, { stalls: [], bounds: [], rooms: Array(width - 1).fill(0), exits: Array(lanes).fill(null), read: new Map() });
+        this.count();
+        if (!this.asked[this.blocks * lanes + lanes - 1]) this.lanes--;
     }
-    readSketches() {
-        let begin = this.text.indexOf("\n", this.text.indexOf("\n") + 1) + 1;
-        const copyRow = (name, width, from, to = from + 1) => this[name].copyWithin(to * width, from * width, (from + 1) * width);
-        this.oldest.fill(NEVER);
-        for (let block = 0; block < this.blocks; block++) {
-            const sketch = this.text.indexOf("~", begin), end = this.text.indexOf("\n", sketch);
-            this.bounds.push([begin, sketch - 1]);
-            begin = end + 1;
-            for (const name of ["waited", "asked", "troubles"]) copyRow(name, this.lanes, block);
-            copyRow("level", this.ports, block);
-            if (block > 0) copyRow("oldest", this.ports, block - 1);
-            this.most.set(this.level.subarray(block * this.ports, (block + 1) * this.ports), block * this.ports);
-            this.readSketch(block, this.text.slice(sketch + 1, end));
-        }
-    }
-    // A sketch is letters with numbers; what follows a process or a port is of it.
-    readSketch(block, sketch) {
-        let lane = 0, port = 0;
-        for (let at = 0, letter, number, digit; at < sketch.length;) {
-            for (letter = sketch[at++], number = 0; (digit = sketch.charCodeAt(at) - 48) <= 9; at++) number = number * 10 + digit;
-            if (letter === "P") lane = block * this.lanes + number;
-            else if (letter in COUNTS) this[COUNTS[letter]][lane + this.lanes] += number;
-            else if (letter === "o") this.open[lane] = number;
-            else if (letter === "p") this.oldest[port = block * this.ports + number - 1] = NEVER;
-            else if (letter === "m") this.most[port] = number;
-            else if (letter === "h") this.level[port + this.ports] = number;
-            else if (letter === "q") this.oldest[port] = this.endOfBlock(block) - number;
-            else if (letter === "S") this.stalls.push(this.endOfBlock(block) - number);
-        }
-    }
-    blockAt(place) { return Math.floor(place / BLOCK); }
+@@REST@@    blockAt(place) { return Math.floor(place / BLOCK); }
     endOfBlock(at) { return Math.min(this.steps, (at + 1) * BLOCK); }
     block(at) {
         if (this.read.size > MOST_READ) this.read.clear();

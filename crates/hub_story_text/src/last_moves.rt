@@ -13,7 +13,7 @@ use hub_story::Told;
 use std::alloc::{AllocError, Global};
 
 /// How many numbers a case can give a port.
-pub(crate) const PORT_NUMBERS: usize = 65_536;
+pub const PORT_NUMBERS: usize = 65_536;
 
 /// A process, and the place of its entry.
 #[derive(Clone, Copy, Debug, PartialEq, Eq)]
@@ -36,7 +36,7 @@ pub(crate) struct LastMoves {
 }
 
 /// On which port a case with this outcome sent a value.
-pub(crate) fn sent_port(case: Case, outcome: Outcome) -> Option<Port>
+pub fn sent_port(case: Case, outcome: Outcome) -> Option<Port>
     ensures value { result ≡ sent_port case outcome }
     ensures few { IfSome result (λ port. port.0 < PORT_NUMBERS) }
 {
@@ -47,7 +47,7 @@ pub(crate) fn sent_port(case: Case, outcome: Outcome) -> Option<Port>
 }
 
 /// From which port it received one.
-pub(crate) fn got_port(case: Case, outcome: Outcome) -> Option<Port>
+pub fn got_port(case: Case, outcome: Outcome) -> Option<Port>
     ensures value { result ≡ got_port case outcome }
     ensures few { IfSome result (λ port. port.0 < PORT_NUMBERS) }
 {

@@ -24,5 +24,8 @@ mod waits;
 
 pub use block::{Block, MOST_BLOCK};
 pub use hub_story::Window;
+pub use last_moves::{PORT_NUMBERS, got_port, sent_port};
 pub use packed_text::PackedText;
-pub use text::story_text;
+pub use partners::all_partners;
+pub use steps::count_of;
+pub use text::{push_story, story_text};

@@ -69,3 +69,17 @@ pub(crate) fn partners_of(
     }
     Ok(table)
 }
+
+/// For each entry of a journal the other one of the passage in which it stands: to which the value of a send went, or from which that
+/// of a receive came.
+pub fn all_partners(
+    alloc: Global,
+    journal: &ShortJournal,
+    story: &ShortStory,
+) -> Result<Vec<Option<u32>>, AllocError>
+    ensures { IfOk result (λ table.
+        AreIn (ways journal.now.entries story.now.told.items) (length journal.now.entries) table.items) }
+{
+    let moves = PortMoves::of(alloc, journal.entries(), &story.told)?;
+    partners_of(alloc, journal, story, &moves)
+}

@@ -22,7 +22,7 @@ use std::alloc::{AllocError, Global};
 const STALL_HEADING: &[u8] = b"        stall: everyone who is left waits\n";
 
 /// How many of these events came by the step at this place; they stand first.
-fn count_of(told: &[Told], place: u32) -> usize
+pub fn count_of(told: &[Told], place: u32) -> usize
     requires { IsFrom place told.now }
     ensures within { result ≤ length told.now }
     ensures came { take result told.now ≡ came_by place told.now }

@@ -61,6 +61,30 @@ fn put_story(
     Ok(())
 }
 
+/// Appends the story of a journal, as `story_text` has it.
+pub fn push_story(
+    out: &mut PackedText,
+    alloc: Global,
+    journal: &ShortJournal,
+    story: &ShortStory,
+    window: Window,
+) -> Result<(), NoMemory>
+    requires story { IsShortStoryOf journal.now story.now }
+    requires few { length journal.now.entries < 2 ^ 32 - 1 }
+    ensures { OnOk result (
+        out.new.items ≡ out.old.items ++ story_text window journal.now.entries story.now.told.items) }
+{
+    let moves = PortMoves::of(alloc, journal.entries(), &story.told)?;
+    let partners = partners_of(alloc, journal, story, &moves)?;
+    let explained = Explained {
+        journal,
+        story,
+        partners: &partners,
+    };
+    let mut last = LastMoves::new(alloc)?;
+    put_story(out, &mut last, &explained, &moves, window)
+}
+
 /// The story of a journal as text: a line for each step that the window has, with those whom it stalled below it; then a line for
 /// each port that was made, which calls waited longest, and who waits in the end. Steps and the numbers of entries are counted from 1. `Err` where
 /// memory was refused.
@@ -74,15 +98,7 @@ pub fn story_text(
     requires few { length journal.now.entries < 2 ^ 32 - 1 }
     ensures { IfOk result (λ text. text.items ≡ story_text window journal.now.entries story.now.told.items) }
 {
-    let moves = PortMoves::of(alloc, journal.entries(), &story.told)?;
-    let partners = partners_of(alloc, journal, story, &moves)?;
-    let explained = Explained {
-        journal,
-        story,
-        partners: &partners,
-    };
-    let mut last = LastMoves::new(alloc)?;
     let mut out = PackedText::new(alloc);
-    put_story(&mut out, &mut last, &explained, &moves, window)?;
+    push_story(&mut out, alloc, journal, story, window)?;
     Ok(out)
 }

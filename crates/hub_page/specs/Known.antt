@@ -1,0 +1,19 @@
+-- A journal with what is known of it.
+use Rattle.std.specs.Prelude.{List, length}
+use Rattle.hub_base.specs.Entry.{Entry}
+use Rattle.hub_story.specs.declared.told.Told.{Told}
+use Rattle.hub_story.specs.Stories.{IsShortStoryOf}
+use Rattle.hub_story_text.specs.Partners.{AreIn, ways}
+use Rattle.hub_page.specs.declared.known.Known.{Known}
+
+abbrev pub entries_of : Known → List Entry
+entries_of k = k.journal.now.entries
+
+-- what is told of them
+abbrev pub told_of : Known → List Told
+told_of k = k.story.now.told.items
+
+-- the story is the journal's own, and the other entries are those of its passages
+pub record IsKnown (k : Known) : Type 0 where
+  pub story : IsShortStoryOf k.journal.now k.story.now
+  pub partners : AreIn (ways (entries_of k) (told_of k)) (length (entries_of k)) k.partners.now

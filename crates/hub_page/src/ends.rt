@@ -1,0 +1,166 @@
+//! What the line of a step tells of an event.
+
+ghost use Rattle.std.specs.Prelude.{◌≡◌, ◌<◌, ◌+◌, ◌++◌, codes, decimal, length, OnOk};
+ghost use Rattle.std.specs.List.{flat_map};
+ghost use Rattle.hub_story.specs.Levels.{told_by};
+ghost use Rattle.hub_page.specs.Ends.{end_words, from_words, level_words, moved_words, outcome_letter, told_words, value_words};
+ghost use Rattle.hub_page.specs.Known.{IsKnown, entries_of, told_of};
+ghost use Rattle.hub_page.specs.Levels.{AreLevels};
+
+use crate::known::Known;
+use crate::levels::Levels;
+use hub_base::{Case, Outcome, Port, What};
+use hub_story::Told;
+use itoa::Buffer;
+use std::alloc::AllocError;
+
+/// Appends a number behind these words.
+fn put_number(out: &mut Vec<u8>, words: &[u8], number: u64) -> Result<(), AllocError>
+    ensures { OnOk result (out.new.items ≡ out.old.items ++ words.now ++ decimal number) }
+{
+    out.extend_from_slice(words)?;
+    let mut buffer = Buffer::new();
+    out.extend_from_slice(buffer.format(number).as_bytes())
+}
+
+/// The letter of an outcome.
+fn outcome_letter(outcome: Outcome) -> &'static [u8]
+    ensures { result.now ≡ outcome_letter outcome }
+{
+    match outcome {
+        Outcome::Sent => b"s",
+        Outcome::Got(_) => b"g",
+        Outcome::Drained => b"d",
+        Outcome::Closed => b"c",
+    }
+}
+
+/// Appends how a step ended.
+fn put_end(out: &mut Vec<u8>, what: What) -> Result<(), AllocError>
+    ensures { OnOk result (out.new.items ≡ out.old.items ++ end_words what) }
+{
+    match what {
+        What::Made(port) => put_number(out, b"m", port.0.into()),
+        What::Fired { case, outcome } => put_number(out, outcome_letter(outcome), case.into()),
+        What::Default => out.extend_from_slice(b"D"),
+        What::Done => out.extend_from_slice(b"k"),
+        What::Parked => Ok(()),
+        What::Stalled => out.extend_from_slice(b"S"),
+        What::Fault(fault) => put_number(out, b"f", fault.number().into()),
+        What::Cancelled => out.extend_from_slice(b"x"),
+    }
+}
+
+/// Appends from which step a value came that was received by the step at this place.
+fn put_sender(out: &mut Vec<u8>, place: u32, sender: Option<u32>) -> Result<(), AllocError>
+    ensures { OnOk result (out.new.items ≡ out.old.items ++ from_words place sender) }
+{
+    match sender {
+        Some(sender) => put_number(out, b"@", place.saturating_sub(sender).into()),
+        None => Ok(()),
+    }
+}
+
+/// Appends how much the port holds after the step at this place.
+fn put_level(
+    out: &mut Vec<u8>,
+    known: &Known<'_>,
+    levels: &Levels,
+    place: u32,
+    port: Port,
+) -> Result<(), AllocError>
+    requires { AreLevels (entries_of known.now) (told_by (place + 1) (told_of known.now)) levels.now }
+    ensures { OnOk result (
+        out.new.items ≡ out.old.items ++ level_words (entries_of known.now) (told_of known.now) place port) }
+{
+    put_number(out, b";", port.0.into())?;
+    put_number(out, b":", levels.level(port))
+}
+
+/// Appends what is told of the value that a case moved.
+fn put_moved(
+    out: &mut Vec<u8>,
+    known: &Known<'_>,
+    levels: &Levels,
+    place: u32,
+    asked: u32,
+    case: Case,
+    outcome: Outcome,
+) -> Result<(), AllocError>
+    requires known { IsKnown known.now }
+    requires levels { AreLevels (entries_of known.now) (told_by (place + 1) (told_of known.now)) levels.now }
+    requires within { asked < length (entries_of known.now) }
+    ensures { OnOk result (out.new.items ≡ out.old.items
+        ++ moved_words (entries_of known.now) (told_of known.now) place asked case outcome) }
+{
+    match (case, outcome) {
+        (Case::Send(port, _), Outcome::Sent) => put_level(out, known, levels, place, port),
+        (Case::Recv(port), Outcome::Got(_)) => {
+            put_sender(out, place, known.partner(asked as usize))?;
+            put_level(out, known, levels, place, port)
+        }
+        _ => Ok(()),
+    }
+}
+
+/// Appends what is told of a value.
+fn put_value(
+    out: &mut Vec<u8>,
+    known: &Known<'_>,
+    levels: &Levels,
+    place: u32,
+    told: &Told,
+) -> Result<(), AllocError>
+    requires known { IsKnown known.now }
+    requires levels { AreLevels (entries_of known.now) (told_by (place + 1) (told_of known.now)) levels.now }
+    ensures { OnOk result (out.new.items ≡ out.old.items
+        ++ value_words (entries_of known.now) (told_of known.now) place told.now.asked told.now.event.what) }
+{
+    let What::Fired { case, outcome } = told.event.what else {
+        return Ok(());
+    };
+    match known.journal.entries().case_at(told.asked as usize, case) {
+        Some(case) => put_moved(out, known, levels, place, told.asked, case, outcome),
+        None => Ok(()),
+    }
+}
+
+/// Appends what is told of an event that came by the step at this place.
+fn put_told(
+    out: &mut Vec<u8>,
+    known: &Known<'_>,
+    levels: &Levels,
+    place: u32,
+    told: &Told,
+) -> Result<(), AllocError>
+    requires known { IsKnown known.now }
+    requires levels { AreLevels (entries_of known.now) (told_by (place + 1) (told_of known.now)) levels.now }
+    ensures { OnOk result (out.new.items ≡ out.old.items
+        ++ told_words (entries_of known.now) (told_of known.now) place told.now) }
+{
+    if matches!(told.event.what, What::Parked) {
+        return Ok(());
+    }
+    put_number(out, b";", place.saturating_sub(told.asked).into())?;
+    put_end(out, told.event.what)?;
+    put_value(out, known, levels, place, told)
+}
+
+/// Appends what is told of these events, which came by the step at this place.
+pub(crate) fn put_all_told(
+    out: &mut Vec<u8>,
+    known: &Known<'_>,
+    levels: &Levels,
+    place: u32,
+    came: &[Told],
+) -> Result<(), AllocError>
+    requires known { IsKnown known.now }
+    requires levels { AreLevels (entries_of known.now) (told_by (place + 1) (told_of known.now)) levels.now }
+    ensures { OnOk result (out.new.items ≡ out.old.items
+        ++ flat_map (told_words (entries_of known.now) (told_of known.now) place) came.now) }
+{
+    for told in came {
+        put_told(out, known, levels, place, told)?;
+    }
+    Ok(())
+}

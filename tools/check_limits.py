@@ -18,13 +18,14 @@ NUMBERS = ['63', '64', '65', '66', '1024', '1000000', '67108864', '67108865', '6
 LIMIT = re.compile(r'(?<![\w.])(?:%s)(?![\w])' % '|'.join(NUMBERS))
 TEXT = re.compile(r'"(?:[^"\\]|\\.)*"')
 WIDTH = re.compile(r'2 ?\^ ?6[34]|1 << 63|\b64[- ]bits?\b|digits_onto 64')
+VIEWER = os.path.join('src', 'viewer', '')  # files of the folder viewer as constants
 TEST_CRATES = ('hub_explore_tests', 'hub_live_tests', 'hub_tests', 'hub_trials')
 
 
 def may_have_numbers(path):
-    """Whether the file is one of limits, of tests or of worked rows."""
+    """Whether the file is one of limits, of tests or of worked rows, or of the viewer."""
     crate, part = path.split(os.sep, 1)
-    return (crate in TEST_CRATES or 'Rows' in part or os.path.basename(part) in ('limits.rt', 'tests.rt')
+    return (crate in TEST_CRATES or part.startswith(VIEWER) or 'Rows' in part or os.path.basename(part) in ('limits.rt', 'tests.rt')
             or os.sep + 'tests' + os.sep in part)
 
 

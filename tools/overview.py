@@ -7,12 +7,16 @@ A column stands for 64 steps or a multiple of that, so that there are at most 50
 the share of the steps in which it waited, and on it a grey one for the share that it asked. A port has a bar as high as it was full at
 most. An orange line is a stall. The windows of windows.py show more.
 """
+import collections
+import heapq
 import sys
 
 sys.dont_write_bytecode = True
-import page
+import model
 
+BLOCK = 64  # steps
 COLUMNS = 500
+LONGEST = 5  # how many of the longest waits are kept
 LEFT, WIDTH, TOP, LANE, STRIP = 64, 1000, 30, 24, 24
 STYLE = """<style>
 text { font: 11px system-ui, sans-serif; fill: #222; } .name { text-anchor: end; } .step { text-anchor: middle; }
@@ -23,19 +27,105 @@ svg { background: #16181c; } text { fill: #e8e8e8; } .waited { fill: #56b4e9; } 
 </style>"""
 
 
-class Overview(page.Data):
-    """A journal whose sketches are kept, and nothing else."""
+class Step:
+    """A step that was asked, while something later may tell of it."""
+
+    __slots__ = ("place", "pid", "word", "asked", "cases")
+
+    def __init__(self, place, line):
+        pid, word, *more = line.split(" ")
+        self.place, self.pid = place, int(pid)
+        self.word, self.asked = model.step([word, *more])
+        self.cases = self.asked[0] if self.word == "call" else ()
+
+
+class Port:
+    def __init__(self, room):
+        self.room, self.count, self.most = room, 0, 0
+
+
+class Sketch:
+    """What the steps of a block have in common, so far."""
+
+    def __init__(self, first):
+        self.first = first
+        self.waited, self.asked, self.most = collections.Counter(), collections.Counter(), {}
+
+    def add_wait(self, lane, since, until):
+        self.waited[lane] += until - max(since, self.first)
+
+
+class Overview:
+    """What a journal tells, block by block, and what it tells of the whole. What is kept besides are the calls that wait."""
 
     def __init__(self, lines):
-        self.sketches, self.stalls = [], []
-        super().__init__(lines, lambda text: None)
+        lines = iter(lines)
+        head, procs = next(lines), next(lines)
+        self.procs = int(procs.split()[1])
+        self.hub = model.Hub(int(head.split()[2]), self.procs)
+        self.ports, self.waiting = [], {}  # the calls that wait, by process
+        self.sketch, self.sketches, self.stalls = Sketch(0), [], []
+        self.count, self.longest = 0, []  # a heap
+        self.asked, self.waited = collections.Counter(), collections.Counter()
+        for line in lines:
+            self.take(line.rstrip("\n"))
+        if self.count % BLOCK:
+            self.end_block()
+        for step in self.waiting.values():
+            self.add_wait(step, self.count - 1 - step.place)
+
+    def lane(self, step):
+        return min(step.pid, self.procs)
+
+    def take(self, line):
+        step = Step(self.count, line)
+        self.hub.step(step.pid, step.word, step.asked)
+        events, self.hub.events = self.hub.events, []
+        moved = set()
+        for number, event in enumerate(events):
+            pid, *words = event.split(" ")
+            asked = self.waiting.pop(int(pid)) if number else step
+            if words == ["parked"]:
+                self.waiting[asked.pid] = asked
+            else:
+                moved |= self.finish(asked, words)
+        for port in moved:
+            self.ports[port - 1].most = max(self.ports[port - 1].most, self.ports[port - 1].count)
+            before = self.sketch.most.get(port, 0)
+            self.sketch.most[port] = max(before, self.ports[port - 1].count)
+        self.asked[self.lane(step)] += 1
+        self.sketch.asked[self.lane(step)] += 1
+        self.count += 1
+        if self.count % BLOCK == 0:
+            self.end_block()
+
+    def finish(self, step, words):
+        """Takes in that a step ended by the present one. The ports on which a value moved."""
+        if step.place < self.count:
+            self.sketch.add_wait(self.lane(step), step.place, self.count)
+            self.add_wait(step, self.count - step.place)
+        if words == ["stalled"] and self.stalls[-1:] != [self.count]:
+            self.stalls.append(self.count)
+        if words[0] == "made":
+            self.ports.append(Port(step.asked))
+        if words[0] != "case" or words[2] not in ("sent", "got"):
+            return set()
+        port = step.cases[int(words[1])][1]
+        self.ports[port - 1].count += 1 if words[2] == "sent" else -1
+        return {port}
+
+    def add_wait(self, step, steps):
+        """Takes in that a call waited so many steps."""
+        self.waited[step.pid] += steps
+        wait = (steps, -step.place)
+        (heapq.heappush if len(self.longest) < LONGEST else heapq.heappushpop)(self.longest, wait)
 
     def end_block(self):
-        sketch = self.sketch
-        super().end_block()
-        held = {number: max(sketch.most.get(number, 0), port.level()) for number, port in enumerate(self.ports, 1) if port.room}
-        self.sketches.append((sketch, held))
-        self.stalls += sketch.stalls
+        for step in self.waiting.values():
+            self.sketch.add_wait(step.pid, step.place, self.count)
+        held = {number: max(self.sketch.most.get(number, 0), port.count) for number, port in enumerate(self.ports, 1) if port.room}
+        self.sketches.append((self.sketch, held))
+        self.sketch = Sketch(self.count)
 
 
 def columns(data):

@@ -1,15 +1,16 @@
 #!/usr/bin/env python3
-"""page_test.py [N]: checks the pages of tools/page.py in a headless Chromium. What a page has to show is worked out here from the journal
-and the events that model.py tells of it, by tools/picture.py, and not by the page or its data. The shapes of N random journals (50) at
-three zooms are compared with that: each box stands in the column of its step on the axis and in the row of its process's name, and so
-on for bars, arrows, levels, stalls and guesses: all expected shapes, and no others. Those of longer journals are drawn on a canvas, and
-are taken from the calls to it. The sketches in the data are counted again. Search, following, links, mouse and keys are tried; the
-contrasts of all colours are computed on light and on dark; bytes that HTML would take for its own are shown; no error may stand in the
-console; the data of journals of benches/ have at most 60 bytes a step; and a page of a million steps has to open, and be drawn at any
-zoom, in little time of the processor. Status 77 without Chromium. The last line counts.
+"""page_test.py [TOOL] [N]: checks pages in a headless Chromium: those that the built chanhub_tool (TOOL) writes, or else those of page.py,
+with which the bytes of TOOL's are compared. What a page has to show is worked out here from the journal and the events that model.py
+tells of it, by picture.py, and not by the page or its data. The shapes of N random journals (50) at three zooms are compared with that:
+each box stands in the column of its step on the axis and in the row of its process's name, and so on for bars, arrows, levels, stalls
+and guesses: all expected shapes, and no others. Those of longer journals are drawn on a canvas, and are taken from the calls to it.
+What the page counts is counted again. Search, following, links, mouse and keys are tried; the contrasts of all colours are computed on
+light and on dark; bytes that HTML would take for its own are shown; no error may stand in the console; the data of journals of benches/
+have at most 60 bytes a step; and a page of a million steps has to open, and be drawn at any zoom, in little time of the processor.
+Status 77 without Chromium. The last line counts.
 
-page_test.py --long [FOLDER] makes the pages of the four journals of benches/, a million steps each, in FOLDER or a temporary one, and
-prints how long they took to open and to move, and their bytes a step.
+page_test.py TOOL --long [FOLDER] has TOOL make the pages of the four journals of benches/, a million steps each, in FOLDER or a
+temporary one, and prints how long they took to open and to move, and their bytes a step.
 """
 import collections
 import fcntl
@@ -34,6 +35,7 @@ from random_journal import Journal as RandomJournal
 
 ROOT = pathlib.Path(__file__).resolve().parent.parent
 RANDOM = 50
+BLOCK = 64  # steps
 MOST_BYTES = 60
 VIEWER_LINES, VIEWER_WIDTH = 600, 160
 # a million steps: seconds of the processor until they are open, and for a view of them
@@ -382,9 +384,23 @@ def drawn_at(browser, journal, first, steps):
     return Drawn(browser, journal.procs), browser.value("page.view.range()")
 
 
+TOOLS = []  # the program that writes pages, if one is given
+
+
+def page_of(text):
+    """The page of a journal, which the program writes as page.py does."""
+    made = []
+    page.write_page(text.splitlines(), made.append)
+    wanted = "".join(made)
+    for tool in TOOLS:
+        told = subprocess.run([tool, "page"], input=text.encode(), stdout=subprocess.PIPE, check=True).stdout.decode()
+        at = next((at for at, (one, other) in enumerate(zip(told, wanted)) if one != other), min(len(told), len(wanted)))
+        assert told == wanted, f"{told[at - 40:at + 40]!r} and not {wanted[at - 40:at + 40]!r}"
+    return wanted
+
+
 def open_page(browser, text, path):
-    with open(path, "w") as file:
-        page.write_page(text.splitlines(), file.write)
+    path.write_text(page_of(text))
     browser.open(path)
 
 
@@ -421,7 +437,7 @@ def check_random(browser, count, work, seed):
 
         count.run(f"random journal {seed}, {steps} steps from {first + 1} on", test)
     count.run(f"strip of random journal {seed}", lambda: check_waiting(browser, journal))
-    count.run(f"data of random journal {seed}", lambda: check_data(text, journal))
+    count.run(f"data of random journal {seed}", lambda: check_data(browser, journal))
     count.run(f"search in random journal {seed}", lambda: check_search(browser, journal))
 
 
@@ -439,7 +455,7 @@ def check_long(browser, count, work, seed, total):
             (check_shapes if steps <= 500 else check_canvas)(drawn, journal, *at)
 
         count.run(f"long journal {seed}, {steps} steps from {first + 1} on", test)
-    count.run(f"data of long journal {seed}", lambda: check_data(text, journal))
+    count.run(f"data of long journal {seed}", lambda: check_data(browser, journal))
     count.run(f"overview of long journal {seed}", lambda: check_overview(text, journal))
     count.run(f"search in long journal {seed}", lambda: check_search(browser, journal))
 
@@ -448,16 +464,15 @@ def check_long(browser, count, work, seed, total):
 
 # what is wrong in the data of a page: what stands there, and what is put there; the first place counts
 WRONG = {
-    "an arrow is left out": (r"g1?<\d+", "D"),
-    "an arrow comes from an earlier step": (r"(?<=g<)2(?=;|\n)", "3"),
-    "a bar ends a step early": (r"(0s1:\d+;s;1:1)\n2r2;g<2;2s", r"\1;1s\n2r2;g<2"),
-    "a bar begins a step late": (r"(?<=;)2(?=s)", "1"),
-    "a level is off by one": (r"(?<=;\d:)1(?=;|\n)", "2"),
-    "a level is not told": (r";\d:\d+", ""),
-    "a stall is not told": (r";S(?=;|\n)", ";x"),
+    "an arrow is left out": (r"g0@\d+", "D"),
+    "an arrow comes from an earlier step": (r"(?<=g0@)2(?=;)", "3"),
+    "a bar ends a step early": (r"(0s1:\d+;0s0;1:1)\n2r2;0g0@2;2:0;2s0;2:0", r"\1;1s0;2:0\n2r2;0g0@2;2:0"),
+    "a bar begins a step late": (r"(?<=;)2(?=s0)", "1"),
+    "a level is off by one": (r"(?<=;\d:)1(?=\n)", "2"),
+    "a level is not told": (r";1:1(?=\n)", ""),
+    "a stall is not told": (r";0S(?=;)", ";0x"),
     "a guess is not told": (r";\d>\d", ""),
-    "a call waits on at the end of a block": (r"(?<=o)(\d+)", lambda found: str(int(found[1]) + 1)),
-    "a step is another process's": (r"(?m)^1(?=[rs])", "0"),
+    "a step is another process's": (r"(?m)^1(?=r)", "0"),
 }
 WORKERS = "chanhub journal 2\nprocs 4\n0 make 2\n0 make 0\n0 make 0\n3 recv 3\n" + "".join(
     f"0 send 1 {n}\n1 recv 1\n1 send 2 {n}\n0 send 1 {n + 1}\n2 recv 2\n1 recv 1\n2 recv 2\n1 send 2 {n + 1}\n" for n in range(100, 130)) + "2 recv 1\n1 recv 1\n0 send 3 7\n3 recv 1\n0 recv 2\n"
@@ -465,11 +480,9 @@ WORKERS = "chanhub journal 2\nprocs 4\n0 make 2\n0 make 0\n0 make 0\n3 recv 3\n"
 
 def check_notices(browser, count, work):
     """Each of these wrong data makes the shapes of some window differ from those expected."""
-    path, made = work / "wrong.html", []
-    page.write_page(WORKERS.splitlines(), made.append)
-    text, journal = "".join(made), picture.Journal(WORKERS.encode())
+    path, text, journal = work / "wrong.html", page_of(WORKERS), picture.Journal(WORKERS.encode())
     begin = text.index('id="data">') + len('id="data">')
-    end = text.index("\n=", begin)
+    end = text.index("</script>", begin)
 
     def is_right(data):
         path.write_text(text[:begin] + data + text[end:])
@@ -498,54 +511,50 @@ def data_of(text):
     return "".join(lines)
 
 
-def sketch_of(journal, asked, first, until):
-    """The sketch of these steps, counted step by step."""
-    waited, own, troubles, since, most, oldest = (collections.Counter() for _ in range(6))
-    lane = lambda one: min(int(one.line.split()[0]), journal.procs)
-    for one in asked:
-        by, end = one.ended.by if one.ended else len(asked), words_of(one)
-        own[lane(one)] += first <= one.place < until
-        waited[lane(one)] += max(0, min(by, until) - max(one.place, first))
-        troubles[lane(one)] += first <= by < until and (end == "stalled" or end.startswith("fault") or end.endswith(" closed"))
-        if one.place < until <= by and one.place < by:
-            since[lane(one)] = until - one.place
-    text = "~"
-    for pid in sorted({*waited, *own, *troubles}):
-        counts = [("w", waited[pid]), ("a", own[pid]), ("t", troubles[pid])]
-        told = "".join(f"{letter}{number}" for letter, number in counts if number) + (f"o{since[pid]}" if pid in since else "")
-        text += f"P{pid}{told}" if told else ""
-    for port in journal.room:
-        ways = [[by for _, by, _ in journal.moved[side][port]] for side in "sr"]
-        if not any(first <= by < until for way in ways for by in way):
-            continue
-        sent, received = (sum(by < until for by in way) for way in ways)
-        most = max((level.count for level in journal.levels() if level.port == port and level.first < until and (level.until is None or level.until > first)), default=0)
-        text += f"p{port}m{most}" + (f"h{sent - received}q{until - sorted(ways[0])[received]}" if sent > received else "h0")
-    return text + "".join(f"S{until - by}" for by in sorted({by for by, _, _ in journal.stalls if first <= by < until}))
+def some(rows):
+    """About 40 of them, and the last."""
+    return rows[:: len(rows) // 40 + 1] + rows[-1:]
 
 
-def check_data(text, journal):
-    """The sketches, and the numbers of the whole."""
-    data, asked = data_of(text), journal.asked()
-    told = [line for line in data.splitlines() if line.startswith("~")]
-    blocks = range(0, len(asked), page.BLOCK)
-    assert len(told) == len(blocks), f"so many sketches: {len(told)}"
-    for line, first in zip(told, blocks):
-        wanted = sketch_of(journal, asked, first, min(len(asked), first + page.BLOCK))
-        assert line == wanted, f"{line} and not {wanted}"
-    numbers = json.loads(re.search("^=(.*)$", data, re.M)[1])
-    held_in = {level.port for level in journal.levels()}
+def check_data(browser, journal):
+    """What the page counts: by blocks, and of the whole."""
+    asked, count = journal.asked(), len(journal.lines)
+    told = browser.value("(({ waited, asked, troubles, most, level, rooms, exits, stalls, waits }) => "
+                         "({ waited: [...waited], asked: [...asked], troubles: [...troubles], most: [...most], level: [...level], rooms, exits, stalls, waits }))(page.journal)")
+    size = browser.value("page.journal.size")
+    lanes, blocks = journal.procs + 1, range(0, count + size, size)
+    pid_of = lambda one: min(int(one.line.split()[0]), journal.procs)
+    is_trouble = lambda end: end == "stalled" or end.startswith("fault") or end.endswith(" closed")
+    for at, until in some(list(enumerate(min(first, count) for first in blocks))):
+        wanted = {name: [0] * lanes for name in ("waited", "asked", "troubles")}
+        for one in asked:
+            by = one.ended.by if one.ended else count
+            wanted["asked"][pid_of(one)] += one.place < until
+            wanted["waited"][pid_of(one)] += max(0, min(by, until) - one.place)
+            wanted["troubles"][pid_of(one)] += by < until and is_trouble(words_of(one))
+        for name, counts in wanted.items():
+            assert told[name][at * lanes : (at + 1) * lanes] == counts, f"{name} before step {until + 1}: {counts}"
     made = sum(words_of(one).startswith("made") for one in asked)
-    assert numbers["steps"] == len(asked) and numbers["procs"] == journal.procs
-    assert numbers["rooms"] == [journal.room[port] if port in held_in else 0 for port in range(1, made + 1)], numbers["rooms"]
-    assert numbers["exits"][: journal.procs] == [journal.exited.get(pid) for pid in range(journal.procs)], numbers["exits"]
+    held_in = {level.port for level in journal.levels()}
+    for port in held_in:
+        for at, first in some(list(enumerate(range(0, count, size)))):
+            held = [level.count for level in journal.levels() if level.port == port and level.first < first + size and (level.until is None or level.until >= first)]
+            most = max(held, default=0)
+            assert told["most"][at * (made + 1) + port] == most, f"port {port} from step {first + 1} on: {most}"
+    assert told["rooms"] == [journal.room[port] if port in held_in else 0 for port in range(1, made + 1)], told["rooms"]
+    assert told["exits"][: journal.procs] == [journal.exited.get(pid) for pid in range(journal.procs)], told["exits"]
+    assert told["stalls"] == sorted({by for by, _, _ in journal.stalls}), told["stalls"]
+    waits = collections.Counter()
+    for one in asked:
+        waits[pid_of(one)] += (one.ended.by if one.ended else count - 1) - one.place
+    assert told["waits"][: journal.procs] == [waits[pid] for pid in range(journal.procs)], told["waits"]
 
 
 def check_overview(text, journal):
     """The bars of tools/overview.py, counted step by step."""
     data, asked = overview.Overview(text.splitlines()), journal.asked()
     drawn = "\n".join(overview.drawing(data))
-    blocks = [(first, min(len(asked), first + page.BLOCK)) for first in range(0, len(asked), page.BLOCK)]
+    blocks = [(first, min(len(asked), first + BLOCK)) for first in range(0, len(asked), BLOCK)]
     x = lambda place: overview.LEFT + overview.WIDTH * place / len(asked)
     for kind, count in ("waited", lambda one, first, until: max(0, min(one.ended.by if one.ended else len(asked), until) - max(one.place, first))), (
             "asked", lambda one, first, until: first <= one.place < until):
@@ -611,10 +620,11 @@ STEPS_OF = {n: 3 + 6 * (n - 100) for n in range(100, 140)}  # the place of the f
 
 
 def longest_wait():
+    """How the story tells it."""
     asked = picture.Journal(PIPE.encode()).asked()
     waits = [((one.ended.by if one.ended else len(asked) - 1) - one.place, -one.place) for one in asked if one.ended is None or one.ended.by > one.place]
     steps, place = max(waits)
-    return f"P{asked[-place].line.split()[0]}, step {1 - place} waited {steps} steps"
+    return re.compile(rf"{1 - place} +P{asked[-place].line} .* {steps}, ")
 
 
 def title(browser):
@@ -758,7 +768,7 @@ def check_keys(browser, count, path):
     browser.key("Escape")
     count.test("Escape shows the whole", title(browser) == "The whole", title(browser))
     told = browser.value("document.getElementById('whole').textContent")
-    count.test("the longest wait is told", longest_wait() in told, told[:300])
+    count.test("the longest wait is told", longest_wait().search(told), told[:300])
     count.test("what is chosen is told to a screen reader", browser.value("document.getElementById('step').ariaLive") == "polite" and browser.value("[...document.querySelectorAll('[role=img]')].every((one) => one.ariaLabel)"))
     nameless = browser.value("""[...document.querySelectorAll("button, input, select")].filter((one) => !(one.ariaLabel || one.textContent.trim() && one.tagName === "BUTTON" || one.closest("label"))).length""")
     count.test("each button has a name", nameless == 0, nameless)
@@ -836,12 +846,8 @@ def check_contrasts(browser, count, path):
 
 def million(steps):
     """A page of so many steps, written here: process 1 receives what process 0 has sent, who waits for that."""
-    first = "0m0;m1\n0m4;m2\n" + "0s1:7\n1r1;g<1;1s\n" * (page.BLOCK // 2 - 1) + "~P0w31a33P1a31\n"
-    block = "0s1:7\n1r1;g<1;1s\n" * (page.BLOCK // 2) + "~P0w32a32P1a32\n"
-    blocks = steps // page.BLOCK
-    numbers = {"steps": blocks * page.BLOCK, "procs": 2, "rooms": [0, 0], "waits": [steps // 2, 0], "exits": [None, None]}
-    data = "chanhub journal 1\nprocs 2\n" + first + block * (blocks - 1) + "=" + json.dumps(numbers)
-    return page.before_data() + data + '\n</script>\n<section id="whole"><h2>The whole</h2></section>\n' + page.after_data()
+    data = "chanhub journal 1\nprocs 2\n0 make 0;0m1\n0 make 4;0m2\n" + "0 send 1 7\n1 recv 1;0g0@1;1:0;1s0;1:0\n" * (steps // 2 - 1)
+    return page.joined(page.BEFORE) + data + page.joined(page.BETWEEN) + "\n" + page.joined(page.AFTER)
 
 
 def check_million(browser, count, work):
@@ -890,9 +896,9 @@ def check_stall_marks(browser, count, work):
 
 def check_viewer(count):
     """The viewer is short, and the page in docs/pictures is the one that page.py makes."""
-    kept, made = ROOT / "docs" / "pictures" / "stalling_pool.html", []
-    page.write_page(kept.with_suffix(".journal").read_text().splitlines(), made.append)
-    count.test("docs/pictures/stalling_pool.html is as tools/page.py makes it", kept.read_text() == "".join(made), "run tools/page.py docs/pictures/stalling_pool.journal > docs/pictures/stalling_pool.html")
+    kept = ROOT / "docs" / "pictures" / "stalling_pool.html"
+    made = page_of(kept.with_suffix(".journal").read_text())
+    count.test("docs/pictures/stalling_pool.html is as tools/page.py makes it", kept.read_text() == made, "run tools/page.py docs/pictures/stalling_pool.journal > docs/pictures/stalling_pool.html")
     lines = [line for name in page.SCRIPTS for line in page.text_of(name).splitlines()]
     count.test(f"the viewer has {len(lines)} lines", len(lines) <= VIEWER_LINES)
     count.test("its lines are as wide as can be read", max(map(len, lines)) < VIEWER_WIDTH)
@@ -918,8 +924,7 @@ def measure(folder):
     subprocess.run([sys.executable, str(ROOT / "benches" / "make_journals.py"), folder], check=True, stdout=subprocess.DEVNULL)
     for name in "hand_overs", "bursts", "selects", "bytes":
         path = pathlib.Path(folder) / f"{name}.html"
-        with open(pathlib.Path(folder) / name) as journal, open(path, "w") as file:
-            page.write_page(journal, file.write)
+        subprocess.run([*TOOLS, "page", pathlib.Path(folder) / name, "-o", path], check=True)
         with tempfile.TemporaryDirectory() as user:
             browser = Browser(user)
             browser.open(path)
@@ -939,16 +944,19 @@ def main():
     if picture.browser() is None:
         print("0 passed, 0 failed, 1 skipped")
         sys.exit(77)
-    if sys.argv[1:2] == ["--long"]:
+    words = sys.argv[1:]
+    if words and not words[0].isdigit():
+        TOOLS.append(words.pop(0))
+    if words[:1] == ["--long"]:
         with tempfile.TemporaryDirectory() as folder:
-            return measure(sys.argv[2] if sys.argv[2:] else folder)
+            return measure(words[1] if words[1:] else folder)
     count = Count()
     check_viewer(count)
     with tempfile.TemporaryDirectory() as folder:
         work = pathlib.Path(folder)
         browser = Browser(folder)
         browser.ask("Page.addScriptToEvaluateOnNewDocument", source=RECORDER)
-        for seed in range(1, int(sys.argv[1]) + 1 if sys.argv[1:] else RANDOM + 1):
+        for seed in range(1, int(words[0]) + 1 if words else RANDOM + 1):
             check_random(browser, count, work, seed)
         for seed, total in LONG:
             check_long(browser, count, work, seed, total)

@@ -4,21 +4,21 @@
     windows.py JOURNAL
 
 Prints the first and the last step of each window, in order. There are at most five stalls, the first one and the last four, and five
-waits, as tools/page.py tells them. A window has 60 steps, where the journal has them; what overlaps is one.
+waits. A window has 60 steps, where the journal has them; what overlaps is one.
 """
 import sys
 
 sys.dont_write_bytecode = True
-import page
+import overview
 
 STEPS = 60
+MOST_STALLS = 4  # how many of the last stalls, beside the first one
 
 
 def places_of(data):
     """The places in the middle of windows."""
-    for by, _ in [*data.first_stalls, *data.last_stalls]:
-        yield by.place
-    for steps, negative, _, _ in data.longest:
+    yield from data.stalls[:1] + data.stalls[1:][-MOST_STALLS:]
+    for steps, negative in data.longest:
         yield -negative
         yield steps - negative
 
@@ -39,7 +39,7 @@ def main():
     if len(sys.argv) != 2 or sys.argv[1].startswith("-"):
         sys.exit(__doc__.split("\n\n")[1])
     with open(sys.argv[1], encoding="ascii") as journal:
-        data = page.Data(journal, lambda text: None)
+        data = overview.Overview(journal)
     for first, last in windows(data):
         print(first + 1, last + 1)
 

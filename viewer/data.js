@@ -1,20 +1,36 @@
-"use strict";
-// Reads the data of the page, which README.md defines: all of them once, to count, and the steps of a block when they are asked for.
-// Steps are counted from 0 here, and from 1 in what is shown.
-const BLOCK = 64;
-const MOST_READ = 300;  // so many blocks stay read
-const LETTERS = { make: "m", send: "s", recv: "r", select: "?", close: "c", cancel: "x", exit: "e" };
+// Reads the data of the page, which README.md defines. Steps are counted from 0 here, and from 1 in what is shown.
+const MOST_READ = 20000, NEVER = 0xffffffff, STILL_WAITS = { by: Infinity, letter: "", number: 0 };
+const WORDS = { m: "make", s: "send", r: "recv", "?": "select", c: "close", x: "cancel", e: "exit" };
 const ENDS = { s: "sent", g: "got", d: "drained", c: "closed", D: "default", k: "done", S: "stalled", x: "cancelled", m: "made", f: "fault" };
-const STILL_WAITS = { by: Infinity, letter: "", number: 0 };
-const NEVER = 0xffffffff, NEWLINE = 10, SEMICOLON = 59, AT = 64;
-
+const ENDED = Object.keys(ENDS), numbers = (first, end) => Array.from({ length: Math.max(0, end - first) }, (_, at) => first + at);
+// Goes through lines letter by letter, since there may be many, and tells of each step and of each item of its line.
+function readLines(text, at, first, end, told) {
+    const number = () => {
+        let value = 0;
+        for (let digit; (digit = text.charCodeAt(at) - 48) >= 0 && digit <= 9; at++) value = value * 10 + digit;
+        return value;
+    };
+    const readItem = (place) => {
+        const one = number(), sign = text[at++], two = number(), three = text[at] === "@" || text[at] === "," ? (at++, number()) : 0;
+        if (sign === ":") told.hold?.(place, one, two);
+        else if (sign === "L") told.last?.(one, ...[two, three].map((back) => (back ? place - back : null)));
+        else if (sign === ">") told.guess?.(one, two);
+        else told.end?.(place, place - one, sign, two, place - three);
+    };
+    for (let place = first; place < end; place++) {
+        const begin = at;
+        while (text[at] !== ";" && text[at] !== "\n") at++;
+        told.step?.(place, begin, at);
+        while (text[at++] === ";") readItem(place);
+    }
+}
 class Step {
-    constructor(journal, place, line) {
-        const [pid, word, ...more] = line.split(" ");
-        Object.assign(this, { journal, place, line, pid: Number(pid), letter: LETTERS[word], more });
+    constructor(journal, place) {
+        const [, pid, letter, more] = /^(\d+)(.)(.*)$/.exec(journal.text.slice(journal.begin[place], journal.behind[place]));
+        Object.assign(this, { journal, place, pid: Number(pid), letter, more });
     }
     // By which step it ended and how: a letter of ENDS, and the number of the case, of the port made or of the fault.
-    get end() { return this.known ??= this.journal.endOf(this); }
+    get end() { return this.known ??= this.journal.endOf(this.place); }
     endsBy(letters) { return this.end.letter !== "" && letters.includes(this.end.letter); }
     get isTrouble() { return this.endsBy("Sfc"); }
     get waits() { return this.end.by > this.place; }
@@ -22,10 +38,7 @@ class Step {
     // Those of processes that there are not stand in a lane below all others.
     get lane() { return Math.min(this.pid, this.journal.procs); }
     // The cases as a select spells them.
-    get cases() {
-        if (this.letter === "?") return this.more.slice(1).filter((field) => field !== "default");
-        return "sr".includes(this.letter) ? [this.letter + this.more.join(":")] : [];
-    }
+    get cases() { return this.letter === "?" ? this.more.match(/[rs][^rs!]+/g) ?? [] : "sr".includes(this.letter) ? [this.letter + this.more] : []; }
     // The case that fired, or the only one of a call that waits: its side, its port and what it sends.
     get shown() { return this.fired ??= this.findShown(); }
     findShown() {
@@ -34,10 +47,14 @@ class Step {
         return { side: cases[at]?.[0] ?? "", port: Number(port), value };
     }
     // The steps at both ends of the way of its value, and the value as the journal spells it.
-    get sender() { return this.endsBy("s") ? this : this.endsBy("g") ? this.journal.step(this.end.sender) : null; }
-    get receiver() { return this.endsBy("g") ? this : this.endsBy("s") ? this.journal.receiverOf(this) : null; }
-    get partner() { return this.endsBy("g") ? this.sender : this.receiver; }
+    get partner() { return this.journal.step(this.journal.partner[this.place]); }
+    get sender() { return this.endsBy("s") ? this : this.endsBy("g") ? this.partner : null; }
+    get receiver() { return this.endsBy("g") ? this : this.endsBy("s") ? this.partner : null; }
     get value() { return this.sender?.shown.value ?? null; }
+    get line() {
+        if (this.letter !== "?") return [this.pid, WORDS[this.letter], ...this.more.split(":")].join(" ").trim();
+        return [this.pid, "select", /^\d+/.exec(this.more), ...this.cases].join(" ") + (this.more.endsWith("!") ? " default" : "");
+    }
     get answer() {
         const { letter, number } = this.end, reason = letter === "f" && document.querySelector(`#faults li:nth-child(${number})`).textContent;
         if (!letter) return "waits to the end";
@@ -45,127 +62,119 @@ class Step {
     }
     get title() { return `step ${this.place + 1}: ${this.line}\n${this.answer}${this.waits ? `, waited ${this.waited}` : ""}`; }
     // The port of which it has the colour; 0 for none.
-    get port() { return { f: 0, m: this.end.number }[this.end.letter] ?? (this.letter === "c" ? Number(this.more[0]) : this.shown.port); }
-    get ports() { return this.letter === "c" ? [Number(this.more[0])] : [this.port, ...this.cases.map((text) => parseInt(text.slice(1), 10))]; }
+    get port() { return { f: 0, m: this.end.number }[this.end.letter] ?? (this.letter === "c" ? Number(this.more) : this.shown.port); }
+    get ports() { return this.letter === "c" ? [Number(this.more)] : [this.port, ...this.cases.map((text) => parseInt(text.slice(1), 10))]; }
     // A short name, as on the boxes of a picture.
     get label() {
         if (this.endsBy("fm")) return this.end.letter + this.end.number;
         if (this.endsBy("D")) return "def";
-        return this.shown.side ? this.shown.side + this.shown.port : { "?": "?", e: "exit" }[this.letter] ?? this.letter + this.more[0];
+        return this.shown.side ? this.shown.side + this.shown.port : { "?": "?", e: "exit" }[this.letter] ?? this.letter + this.more;
     }
 }
-
-// A step that stalls calls, and which steps moved values last, by the numbers of ports.
-class Stall {
-    constructor(journal, place, senders, receivers) { Object.assign(this, { journal, place, calls: [], senders: [...senders], receivers: [...receivers] }); }
-    get steps() { return this.calls.map((call) => this.journal.step(call)); }
-    // The steps that were the last to send and to receive there; null for nobody.
-    moversOf(port) { return [this.senders, this.receivers].map(({ [port]: place }) => (place === NEVER ? null : place)); }
-    get last() {
-        const ports = new Set(this.steps.flatMap((step) => step.cases.map((text) => parseInt(text.slice(1), 10))));
-        return [...ports].filter(Boolean).sort((one, other) => one - other).map((port) => [port, ...this.moversOf(port)]);
-    }
-    // Who perhaps waits for whom: of the last movers on its port the first that is stalled too and does not wait for the same.
-    get guesses() {
-        const { steps } = this, offers = new Map(steps.map((step) => [step.pid, step.cases.map((text) => text.split(":")[0])]));
-        const whom = (pid, offer) => {
-            const movers = this.moversOf(Number(offer.slice(1))), others = offer[0] === "r" ? movers : movers.reverse();
-            const isWanted = (other) => other !== pid && offers.has(other) && !offers.get(other).includes(offer);
-            return others.map((place) => (place === null ? null : this.journal.step(place).pid)).find(isWanted);
-        };
-        const pairs = [...offers].flatMap(([pid, own]) => own.map((offer) => [pid, whom(pid, offer)])).filter(([, other]) => other !== undefined);
-        return [...new Map(pairs.map((pair) => [pair.join(), pair])).values()];
-    }
-}
-
-// What the lines of a block tell: its steps; the ends to which steps came by them; levels and stalls.
-class Block {
-    constructor(journal, at) {
-        const [senders, receivers] = [journal.senders, journal.receivers].map((table) => table.slice(at * journal.width, (at + 1) * journal.width));
-        Object.assign(this, { journal, steps: [], ends: new Map(), levels: [], stalls: {}, senders, receivers });
-        for (const line of journal.text.slice(journal.bounds[at], journal.bounds[at + 1] - 1).split("\n")) {
-            const [entry, ...items] = line.split(";"), place = at * BLOCK + this.steps.length;
-            this.steps.push(new Step(journal, place, entry));
-            for (const item of items) this.readItem(place, item);
-        }
-    }
-    readItem(place, item) {
-        const [, first, letter, second, third] = /^(\d*)(\D)(\d*)\D?(\d*)$/.exec(item), number = Number(second), call = place - first;
-        if (letter === ":") {
-            (this.moved.letter === "s" ? this.senders : this.receivers)[first] = this.moved.call;
-            return this.levels.push({ port: Number(first), from: place, count: number });
-        }
-        if (letter === "S") (this.stalls[place] ??= new Stall(this.journal, place, this.senders, this.receivers)).calls.push(call);
-        this.moved = { call, letter };
-        this.ends.set(call, { by: place, letter, number, sender: place - third });
-    }
-}
-
 class Journal {
     constructor(text) {
-        const steps = text.split("\n").length - 3, lanes = Number(/procs (\d+)/.exec(text)[1]) + 1, width = (text.match(/;0m/g) ?? []).length + 1;
-        Object.assign(this, { text, steps, procs: lanes - 1, lanes, width, ports: width - 1, blocks: Math.ceil(steps / BLOCK) });
+        const steps = (text.match(/\n/g) ?? []).length - 2, procs = Number(/procs (\d+)/.exec(text)[1]), ports = (text.match(/;0m/g) ?? []).length;
+        // So many steps are counted together, in a block.
+        const size = steps > MOST_SHAPES ? 64 : 1, blocks = Math.ceil(steps / size), lanes = procs + 1, width = ports + 1;
+        Object.assign(this, { text, steps, procs, ports, size, blocks, lanes, width });
         const tables = (size, names) => names.forEach((name) => (this[name] = new Uint32Array(size)));
-        // By step: by which other one it ended; and which call received what it sent.
-        tables(steps, ["by", "receiver"]);
-        // By block and lane: for how many steps the process waited, asked and had trouble before; and which call waits when the block ends.
-        tables((this.blocks + 1) * lanes, ["waited", "asked", "troubles", "open"]);
-        // By block and port: how much it holds at most, and before; and which steps moved values last before.
-        tables((this.blocks + 1) * width, ["most", "level", "senders", "receivers"]);
-        for (const name of ["by", "receiver", "open", "senders", "receivers"]) this[name].fill(NEVER);
-        // The steps that stalled calls; where blocks begin in the text; of ports their rooms, or 0 where nothing was held; of processes where
-        // they exited; and the blocks that are read.
-        Object.assign(this, { stalls: [], bounds: [], rooms: Array(width - 1).fill(0), exits: Array(lanes).fill(null), read: new Map() });
-        this.count();
-        if (!this.asked[this.blocks * lanes + lanes - 1]) this.lanes--;
+        // By step: where its line stands in the text; by which step it ended and how; and the other end of its value's way.
+        tables(steps, ["begin", "behind", "by", "letter", "number", "partner"]);
+        // By block and lane: for how many steps the process waited, asked and had trouble before; and the call that waits when it begins.
+        tables((blocks + 1) * lanes, ["waited", "asked", "troubles", "open"]);
+        // By block and port: how much it holds at most, and before.
+        tables((blocks + 1) * width, ["most", "level"]);
+        for (const name of ["by", "partner", "open"]) this[name].fill(NEVER);
+        // The steps that stalled calls; of each port its room, or 0 if it never held a value; of each process where it exited; and steps.
+        Object.assign(this, { stalls: [], rooms: Array(ports).fill(0), exits: Array(lanes).fill(null), read: new Map() });
+        const counter = new Counter(this);
+        readLines(text, text.indexOf("\n", text.indexOf("\n") + 1) + 1, 0, steps, counter);
+        if (steps) counter.endBlock();
+        // For how many steps the calls of each process waited; a lane more stands for all processes that there are not, if any asked.
+        const last = blocks * lanes, shown = this.asked[last + procs] ? lanes : procs;
+        this.waits = numbers(0, shown).map((lane) => this.waited[last + lane] - (this.open[last + lane] !== NEVER));
     }
-@@REST@@    blockAt(place) { return Math.floor(place / BLOCK); }
-    endOfBlock(at) { return Math.min(this.steps, (at + 1) * BLOCK); }
-    block(at) {
+    blockAt(place) { return Math.floor(place / this.size); }
+    endOfBlock(at) { return Math.min(this.steps, (at + 1) * this.size); }
+    // The step at a place, if it is there.
+    step(place) {
+        if (place >= this.steps) return null;
         if (this.read.size > MOST_READ) this.read.clear();
-        if (!this.read.has(at)) this.read.set(at, new Block(this, at));
-        return this.read.get(at);
+        if (!this.read.has(place)) this.read.set(place, new Step(this, place));
+        return this.read.get(place);
     }
-    blocksOf(first, end) { return numbers(this.blockAt(first), Math.ceil(Math.min(end, this.steps) / BLOCK)).map((at) => this.block(at)); }
-    step(place) { return this.block(this.blockAt(place)).steps[place % BLOCK]; }
     stepsOf(first, end) { return numbers(first, end).map((place) => this.step(place)); }
-    // The steps that came to their end by these.
-    endsOf(first, end) {
-        const ends = this.blocksOf(first, end).flatMap((block) => [...block.ends]);
-        return ends.filter(([, { by }]) => by >= first && by < end).map(([call]) => this.step(call));
+    endOf(place) { return this.by[place] === NEVER ? STILL_WAITS : { by: this.by[place], letter: ENDED[this.letter[place]], number: this.number[place] }; }
+    // The steps that were asked before the second one and went on until the first one at least: a row of the table has those that wait.
+    goingOn(first, end) {
+        const at = this.blockAt(first), waiting = [...this.open.subarray(at * this.lanes, (at + 1) * this.lanes)].filter((place) => place !== NEVER);
+        return [...waiting, ...numbers(at * this.size, end)].map((place) => this.step(place)).filter((step) => step.end.by >= first);
     }
-    stallAt(place) { return this.block(this.blockAt(place)).stalls[place]; }
+    endsOf(first, end) { return this.goingOn(first, end).filter((step) => step.end.by < end); }
+    tell(first, end, told) { if (first < end) readLines(this.text, this.begin[first], first, end, told); }
+    stallAt(place) {
+        const stall = { place, calls: [], last: {}, guesses: {} };
+        const end = (by, call, letter) => letter === "S" && stall.calls.push(call);
+        this.tell(place, place + 1, { end, last: (...ends) => ends[0] && (stall.last[ends[0]] = ends), guess: (...pair) => (stall.guesses[pair] = pair) });
+        return stall.calls.length ? stall : null;
+    }
     stallsOf(first, end) { return this.stalls.filter((place) => place >= first && place < end).map((place) => this.stallAt(place)); }
-    waitingAfter(at) {
-        const open = (lane) => (at < 0 ? 0 : this.open[at * this.lanes + lane]);
-        return numbers(0, this.lanes).filter(open).map((lane) => this.step(this.endOfBlock(at) - open(lane)));
-    }
-    endOf({ place, lane }) {
-        let at = this.blockAt(place);
-        while (at < this.blocks && this.open[at * this.lanes + lane] === this.endOfBlock(at) - place) at++;
-        return at < this.blocks ? this.block(at).ends.get(place) : STILL_WAITS;
-    }
-    receiverOf({ place, end, shown }) {
-        let at = this.blockAt(end.by);
-        while (at < this.blocks && this.oldest[at * this.ports + shown.port - 1] <= end.by) at++;
-        const receivers = at < this.blocks ? this.block(at).receivers : new Map();
-        return receivers.has(place) ? this.step(receivers.get(place)) : null;
-    }
-    // In what share of these steps a process waited or asked, by the sketches.
+    // In what share of these steps a process waited or asked, by the tables.
     share(name, lane, first, end) { return (this.before(name, lane, end) - this.before(name, lane, first)) / (end - first); }
     before(name, lane, step) {
-        const at = Math.min(this.blocks - 1, this.blockAt(step)), part = (step - at * BLOCK) / (this.endOfBlock(at) - at * BLOCK);
+        const at = Math.min(this.blocks - 1, this.blockAt(step)), part = (step - at * this.size) / (this.endOfBlock(at) - at * this.size);
         const here = this[name][at * this.lanes + lane], next = this[name][(at + 1) * this.lanes + lane];
         return here + (next - here) * part;
     }
-    mostOf(port, first, end) {
-        let most = 0;
-        for (let at = this.blockAt(first); at * BLOCK < end; at++) most = Math.max(most, this.most[at * this.ports + port - 1]);
-        return most;
+    mostOf(port, first, end) { return Math.max(...numbers(this.blockAt(first), Math.ceil(end / this.size)).map((at) => this.most[at * this.width + port])); }
+}
+// Fills the tables of a journal. Those by blocks are for views in which a step is smaller than a dot.
+class Counter {
+    constructor(journal) {
+        const open = Array(journal.lanes).fill(NEVER), lanes = new Uint8Array(journal.steps);
+        Object.assign(this, { journal, open, lanes, made: [], letter: "", room: 0, before: NEVER });
+    }
+    // What is counted in a block stands in the row behind its own, which begins as its own.
+    beginBlock(block) {
+        const { journal } = this, { lanes, width, size } = journal;
+        for (const name of ["waited", "asked", "troubles"]) journal[name].copyWithin((block + 1) * lanes, block * lanes, (block + 1) * lanes);
+        journal.level.copyWithin((block + 1) * width, block * width, (block + 1) * width);
+        journal.most.set(journal.level.subarray(block * width, (block + 1) * width), block * width);
+        Object.assign(this, { block, first: block * size, row: (block + 1) * lanes, ports: block * width });
+    }
+    endBlock() {
+        const { journal, first, row, open } = this, end = journal.endOfBlock(this.block);
+        for (const [lane, since] of open.entries()) if (since !== NEVER) journal.waited[row + lane] += end - Math.max(since, first);
+        journal.open.set(open, row);
+    }
+    // A step waits until its end is told.
+    step(place, begin, behind) {
+        const { journal } = this, pid = parseInt(journal.text.slice(begin, begin + 3), 10), lane = Math.min(pid, journal.procs);
+        if (place && place % journal.size === 0) this.endBlock();
+        if (place % journal.size === 0) this.beginBlock(place / journal.size);
+        const at = begin + String(pid).length;
+        Object.assign(this, { letter: journal.text[at], room: at + 1, before: this.open[lane] });
+        [journal.begin[place], journal.behind[place], this.lanes[place], this.open[lane]] = [begin, behind, lane, place];
+        journal.asked[this.row + lane]++;
+    }
+    end(place, call, letter, number, sender) {
+        const { journal, first, row } = this, lane = this.lanes[call];
+        [journal.by[call], journal.letter[call], journal.number[call]] = [place, ENDED.indexOf(letter), number];
+        this.open[lane] = call === place ? this.before : NEVER;
+        if (call < place) journal.waited[row + lane] += place - Math.max(call, first);
+        if (letter === "g") [journal.partner[call], journal.partner[sender]] = [sender, call];
+        if ("Sfc".includes(letter)) journal.troubles[row + lane]++;
+        if (letter === "S" && journal.stalls.at(-1) !== place) journal.stalls.push(place);
+        if (letter === "m") this.made[number] = parseInt(journal.text.slice(this.room, this.room + 10), 10);
+        if (letter === "k" && this.letter === "e") journal.exits[lane] = place;
+    }
+    hold(place, port, count) {
+        const { journal, ports } = this;
+        journal.level[ports + journal.width + port] = count;
+        journal.most[ports + port] = Math.max(journal.most[ports + port], count);
+        if (count) journal.rooms[port - 1] = this.made[port];
     }
 }
-
-const numbers = (first, end) => Array.from({ length: Math.max(0, end - first) }, (_, at) => first + at);
 const counted = (count, word) => `${count} ${word}${count === 1 ? "" : "s"}`;
 // Bytes as text where they are UTF-8 without control characters; else as they are spelled.
 function readable(value) {

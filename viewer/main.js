@@ -1,8 +1,9 @@
 // The page: what is chosen, and what search, links, wheel, mouse and keys do.
 const byId = (id) => document.getElementById(id);
 class Page {
-    constructor(journal) {
+    constructor(journal, story) {
         const view = new View(journal);
+        byId("whole").innerHTML = wholeText(journal, story).html;
         Object.assign(this, { journal, view, chosen: null, words: "", found: [], marks: new Set(), dragged: 0 });
         this.painter = new Painter(this);
         this.keys = {
@@ -60,7 +61,7 @@ class Page {
         const { journal } = this, tests = (words.match(/port \d+|step \d+|P\d+|=\S+|\S+/gi) ?? []).map((word) => this.testOf(word));
         Object.assign(this, { words, found: [], marks: new Set() });
         for (let at = 0, told = performance.now(); at < journal.blocks && tests.length; at++) {
-            for (const step of journal.block(at).steps) if (tests.every((test) => test(step))) this.found.push(step.place);
+            for (const step of journal.stepsOf(at * journal.size, journal.endOfBlock(at))) if (tests.every((test) => test(step))) this.found.push(step.place);
             if (performance.now() - told < 15) continue;
             byId("count").textContent = `${this.found.length}, searching`;
             await new Promise(requestAnimationFrame);
@@ -137,5 +138,5 @@ class Page {
         this.draw();
     }
 }
-var page = new Page(new Journal(byId("data").textContent.trimStart()));
+var page = new Page(new Journal(byId("data").textContent.trimStart()), byId("story").textContent.replace(/^\n.*\n/, ""));
 document.body.inert = false;

@@ -15,7 +15,7 @@ class Painter {
         lanes.setAttribute("class", `${this.page.isFollowing ? "following" : ""} ${isNear ? "" : "far"}`);
         lanes.replaceChildren(...this.names(), node("svg", clip, ...(isNear ? this.shapes() : [])));
         this.begin(canvas, width, height);
-        if (view.steps > MOST_SHAPES) this.paintSketches();
+        if (view.steps > MOST_SHAPES) this.paintCounts();
         else if (!isNear) this.paintShapes();
     }
     names() {
@@ -77,13 +77,12 @@ class Painter {
     }
     label(step) {
         const { view } = this, { y, size } = view.place.get(step.lane), { label, value } = step;
-        const texts = value === null ? [label] : [`${label}:${readable(value)}`, label];
-        const text = size > 9 && texts.find((text) => text.length * 6.2 <= view.boxWidth);
+        const text = size > 9 && [`${label}:${readable(value)}`, label].slice(value === null).find((text) => text.length * 6.2 <= view.boxWidth);
         return text ? node("text", { class: `label ${this.signs(step)}`, x: view.x(step.place), y }, text) : "";
     }
     guesses({ place, guesses }) {
         const { view } = this, x = view.x(place) + view.boxWidth / 2 + 3;
-        return guesses.map((pair) => pair.map((pid) => view.place.get(pid))).filter(([from, to]) => from && to).map(([from, to]) => {
+        return Object.values(guesses).map((pair) => pair.map((pid) => view.place.get(pid))).filter(([from, to]) => from && to).map(([from, to]) => {
             const far = x + (from.y < to.y ? 20 : 40), way = `M${x},${from.y}C${far},${from.y} ${far},${to.y} ${x},${to.y}`;
             return node("path", { class: "guess", d: way, "marker-end": "url(#tip)" });
         });
@@ -104,7 +103,7 @@ class Painter {
         for (const { class: signs, x, y, width, height } of shapes) this.fill(colourOf(signs), x, y, width, height);
     }
     // In columns of dots the waits as a band as high as their share, the steps as a thinner one on it, and troubles.
-    paintSketches() {
+    paintCounts() {
         const { view, journal } = this, width = Math.floor(view.width - LEFT - RIGHT), scale = view.steps / width;
         const edge = (column) => Math.min(journal.steps, view.first + column * scale);
         const bands = [["waited", "h1", 0.8], ["asked", "edge", 1.2], ["troubles", "trouble", Infinity]];
@@ -134,13 +133,9 @@ class Painter {
     // The whole: how many wait, where it stalled, and what was found.
     paintWhole(canvas, found) {
         const { journal } = this, { procs, stalls } = journal, count = Math.max(1, journal.steps), width = canvas.parentElement.clientWidth;
-        const x = (step) => Math.floor(step / scale), scale = count / width, lanes = numbers(0, procs);
+        const x = (step) => Math.floor(step / scale), scale = count / width;
         this.begin(canvas, width, 54);
-        const calls = count > MOST_SHAPES ? [] : journal.stepsOf(0, journal.steps).filter((call) => call.waits);
-        const overlap = (call, first, end) => Math.max(0, Math.min(call.end.by, end) - Math.max(call.place, first)) / (end - first);
-        const each = calls.length ? (first, end) => calls.map((call) => overlap(call, first, end))
-            : (first, end) => lanes.map((lane) => journal.share("waited", lane, first, end));
-        const waiting = (first, end) => each(first, end).reduce((sum, share) => sum + share, 0) / procs;
+        const waiting = (first, end) => numbers(0, procs).reduce((sum, lane) => sum + journal.share("waited", lane, first, end), 0) / procs;
         this.fillColumns("h1", 0, width, 48, (column) => 32 * waiting(column * scale, (column + COLUMN) * scale), 1);
         for (const place of stalls) this.fill("trouble", x(place), 16, Math.max(2, x(1)), 32);
         for (const column of new Set(found.map(x))) this.fill("on", column, 48, 2, 6);

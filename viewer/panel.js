@@ -1,4 +1,4 @@
-// Tells of a step in words. What tells of the whole stands in the page.
+// Tells of a step, or of the whole, in words.
 // HTML in which each value is text, unless it is HTML or a list of it.
 function html(parts, ...values) {
     const escaped = (value) => String(value || value === 0 ? value : "").replace(/[&<>"]/g, (letter) => `&#${letter.charCodeAt()};`);
@@ -6,13 +6,12 @@ function html(parts, ...values) {
     return { html: String.raw({ raw: parts }, ...values.map(inside)) };
 }
 const listOf = (items) => html`<ul>${items.map((item) => html`<li>${item}</li>`)}</ul>`;
+const tableOf = (rows) => html`<table class="lines">${rows.map((row) => html`<tr>${row.map((cell) => html`<td>${cell}</td>`)}</tr>`)}</table>`;
 const link = (place, words = `step ${place + 1}`) => html`<a href="#step=${place + 1}">${words}</a>`;
 const who = (step) => (step ? html`P${step.pid}, ${link(step.place)}` : "nobody");
 const short = (step) => html`${link(step.place, step.place + 1)} <code>${step.line}</code> <span class="dim">${step.answer}</span>`;
-function caseText(text) {
-    const [port, value] = text.slice(1).split(":");
-    return value === undefined ? `receive from port ${port}` : `send ${readable(value)} on port ${port}`;
-}
+const sendText = (port, value) => (value === undefined ? `receive from port ${port}` : `send ${readable(value)} on port ${port}`);
+const caseText = (text) => sendText(...text.slice(1).split(":"));
 function valueText(step) {
     const { partner, value } = step, way = partner ? html`${step.endsBy("g") ? "from" : "to"} ${who(partner)}` : `stays in port ${step.port}`;
     return html`<b>${readable(value)}</b> ${way}<br><a href="#${new URLSearchParams({ step: step.place + 1, find: "=" + value })}">Follow it</a>`;
@@ -42,10 +41,23 @@ function stepText(step, { journal, found, words, isFollowing }) {
         <p><a href="#">The whole</a></p>`;
 }
 function stallText({ calls, last, guesses }, journal) {
-    const steps = calls.map((call) => journal.step(call)), mover = (place) => who(place !== null && journal.step(place));
+    const steps = calls.map((call) => journal.step(call)), mover = (place) => who(place !== null && journal.step(place)), ends = Object.values(last);
     return html`<h3>A deadlock: everyone who is left waits</h3>
         ${listOf(steps.map((step) => html`${who(step)} waits to ${step.cases.map(caseText).join(" or to ")}`))}
-        <p>${guesses.map(([pid, other]) => `P${pid} perhaps waits for P${other}. `)}</p>
-        <h3>Who was there last</h3><table class="lines"><tr><th>port<th>sent by<th>received by</tr>
-        ${last.map(([port, ...ends]) => html`<tr><td>${port}</td>${ends.map((place) => html`<td>${mover(place)}</td>`)}</tr>`)}</table>`;
+        <p>${Object.values(guesses).map(([pid, other]) => `P${pid} perhaps waits for P${other}. `)}</p>
+        <h3>Who was there last</h3>${tableOf([["port", "sent by", "received by"], ...ends.map(([port, ...places]) => [port, ...places.map(mover)])])}`;
+}
+// The whole: the first deadlock and the last four, processes and ports, and the end of the story, with links to its steps.
+function wholeText({ steps, procs, stalls, rooms, waits, exits }, story) {
+    const forms = ["open", "folded", "hidden", "on top"], optionsOf = (texts) => texts.map((text) => html`<option>${text}`);
+    const shownAs = (lane, texts) => html`<select data-process="${lane}" aria-label="${lane} shown as">${optionsOf(texts)}</select>`;
+    const exit = (lane) => exits[lane] !== null && link(exits[lane]), name = (lane) => (lane < procs ? `P${lane}` : "unknown");
+    const rows = waits.map((waited, lane) => [name(lane), `waited ${waited}`, exit(lane), shownAs(lane, forms)]);
+    const ports = rooms.map((room, at) => room > 0 && html`<label><input type="checkbox" data-port="${at + 1}" checked> port ${at + 1}</label> `);
+    const linked = { html: story.replace(/(?<=step )\d+|(?<=^ +)\d+(?= +P)/gm, (step) => link(step - 1, step).html) };
+    return html`<h2>The whole</h2><p>${counted(steps, "step")} of ${procs} processes on ${counted(rooms.length, "port")}</p>
+        <h3>${counted(stalls.length, "deadlock")}</h3>${listOf([...stalls.slice(0, 1), ...stalls.slice(1).slice(-4)].map((place) => link(place)))}
+        <h3>Shown</h3><p>${ports}</p>
+        <p><select id="order" aria-label="their order">${optionsOf(["by number", "by time waited"])}</select> ${shownAs("all", ["all", ...forms])}</p>
+        ${tableOf(rows)}<h3>The end of the story</h3><pre>${linked}</pre>`;
 }

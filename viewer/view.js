@@ -1,7 +1,6 @@
 // What is in view: a window of steps, lanes of processes, strips of ports, and what stands there.
 const LEFT = 64, RIGHT = 44, AXIS = 26, STRIP = 24, FOLDED = 8, LEAST_LANE = 16, MOST_LANE = 40, NEAREST = 90, CLOSE = 60;
-const MOST_NEAR = 500;     // so many steps have arrows, and tell what they are
-const MOST_SHAPES = 6000;  // so many are drawn one by one; of more is drawn what the sketches tell
+const MOST_NEAR = 500, MOST_SHAPES = 6000;  // so many steps have arrows, and tell what they are; so many are drawn one by one
 class View {
     constructor(journal) {
         // The step at the left edge and how many are in view, with fractions; and the ports that are not shown.
@@ -20,11 +19,9 @@ class View {
     arrange() {
         const onTop = (lane) => lane.form === "on top", isFolded = (lane) => lane.form === "folded";
         const shown = this.lanes.filter(({ form }) => form !== "hidden").sort((one, other) => onTop(other) - onTop(one));
-        const folded = shown.filter(isFolded).length;
-        const strips = this.strips().length, room = this.height - AXIS - folded * FOLDED - strips * STRIP - 18;
+        const folded = shown.filter(isFolded).length, strips = this.strips().length, room = this.height - AXIS - folded * FOLDED - strips * STRIP - 18;
         const size = Math.min(MOST_LANE, Math.max(LEAST_LANE, Math.floor(room / Math.max(1, shown.length - folded))));
-        this.stripTop = AXIS + 10;
-        this.place = new Map();
+        Object.assign(this, { stripTop: AXIS + 10, place: new Map() });
         for (const lane of shown) {
             const height = isFolded(lane) ? FOLDED : size;
             this.place.set(lane.pid, { y: this.stripTop + height / 2 - 6, height, size: Math.max(4, Math.min(20, height - 6)) });
@@ -49,24 +46,20 @@ class View {
         if (isOff || this.steps > MOST_NEAR) this.show(step + 0.5 - steps / 2, steps);
     }
     boxes() { return this.journal.stepsOf(...this.range()).filter((step) => this.isShown(step)); }
-    // The calls that wait: those that waited before the first block, and those that were asked since.
-    bars() {
-        const [first, end] = this.range(), at = this.journal.blockAt(first);
-        const calls = [...this.journal.waitingAfter(at - 1), ...this.journal.stepsOf(at * BLOCK, end).filter((step) => step.waits)];
-        return calls.filter((call) => this.isShown(call) && call.end.by >= first);
-    }
+    bars() { return this.journal.goingOn(...this.range()).filter((call) => call.waits && this.isShown(call)); }
     // The receivers of the values of which at least one end is in view.
     arrows() {
         const receivers = this.journal.endsOf(...this.range()).map((call) => call.receiver);
         return [...new Set(receivers)].filter((to) => to && this.isShown(to, to.sender));
     }
     // What ports hold as far as it can be seen: each count from one step until another.
-    levels() { return this.strips().flatMap((port, row) => this.levelsOf(port).map((level) => ({ ...level, row }))); }
-    levelsOf(port) {
+    levels() {
         const { journal } = this, [first, last] = this.range(), end = Math.min(journal.steps, this.stepAt(this.width) + 2), at = journal.blockAt(first);
-        const before = { port, from: at * BLOCK - 1, count: journal.level[at * journal.ports + port - 1] };
-        const changes = journal.blocksOf(first, end).flatMap((block) => block.levels).filter((level) => level.port === port);
-        const levels = [before, ...changes].map((level, at) => ({ ...level, until: changes[at]?.from ?? Math.max(end, first) }));
+        const before = (port) => ({ port, from: at * journal.size - 1, count: journal.level[at * journal.width + port] });
+        const told = new Map(this.strips().map((port) => [port, [before(port)]]));
+        const hold = (from, port, count) => count !== told.get(port)?.at(-1).count && told.get(port)?.push({ port, from, count });
+        journal.tell(at * journal.size, Math.max(end, last), { hold });
+        const levels = [...told.values()].flatMap((own, row) => own.map((level, at) => ({ ...level, row, until: own[at + 1]?.from ?? Math.max(end, first) })));
         return levels.filter((level) => level.count && level.until >= first && level.from < last);
     }
     stalls() { return this.journal.stallsOf(...this.range()); }

@@ -1,17 +1,21 @@
--- A page: its beginning, the data, the end of the story as text, and its end.
+-- A page: the files of the viewer, and between them what depends on the journal: the data, and the end of its story as text.
 use Rattle.std.specs.Prelude.{List, ℕ, ◌++◌}
 use Rattle.hub_base.specs.declared.head.Head.{Head}
 use Rattle.hub_base.specs.Entry.{Entry}
 use Rattle.hub_story.specs.declared.told.Told.{Told}
 use Rattle.hub_story.specs.declared.window.Window.{Window}
 use Rattle.hub_story_text.specs.StoryText.{story_text}
-use Rattle.hub_page.specs.declared.page.Frame.{Frame}
 use Rattle.hub_page.specs.Data.{data_text}
+use Rattle.hub_page.specs.Viewer.{after_text, before_text, between_text}
 
 -- no step
 abbrev pub no_steps : Window
 no_steps = record { first = 0; end = 0 }
 
--- in this frame, what depends on the journal: the data, and its story without the lines of steps
-abbrev pub page_text : Frame → Head → List Entry → List Told → List ℕ
-page_text f h es all = f.before.now ++ data_text h es all ++ f.between.now ++ story_text no_steps es all ++ f.after.now
+-- the data, and the story without the lines of steps, between these texts
+abbrev pub in_frame : List ℕ → List ℕ → List ℕ → Head → List Entry → List Told → List ℕ
+in_frame before between after h es all = before ++ data_text h es all ++ between ++ story_text no_steps es all ++ after
+
+-- of a journal with this head and these entries, of which this is told
+abbrev pub page_text : Head → List Entry → List Told → List ℕ
+page_text h es all = in_frame before_text between_text after_text h es all

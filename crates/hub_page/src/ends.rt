@@ -1,6 +1,6 @@
 //! What the line of a step tells of an event.
 
-ghost use Rattle.std.specs.Prelude.{◌≡◌, ◌<◌, ◌+◌, ◌++◌, codes, decimal, length, OnOk};
+ghost use Rattle.std.specs.Prelude.{◌≡◌, ◌<◌, ◌+◌, ◌++◌, length, OnOk};
 ghost use Rattle.std.specs.List.{flat_map};
 ghost use Rattle.hub_story.specs.Levels.{told_by};
 ghost use Rattle.hub_page.specs.Ends.{end_words, from_words, level_words, moved_words, outcome_letter, told_words, value_words};
@@ -9,19 +9,10 @@ ghost use Rattle.hub_page.specs.Levels.{AreLevels};
 
 use crate::known::Known;
 use crate::levels::Levels;
+use crate::number::put_number;
 use hub_base::{Case, Outcome, Port, What};
 use hub_story::Told;
-use itoa::Buffer;
 use std::alloc::AllocError;
-
-/// Appends a number behind these words.
-fn put_number(out: &mut Vec<u8>, words: &[u8], number: u64) -> Result<(), AllocError>
-    ensures { OnOk result (out.new.items ≡ out.old.items ++ words.now ++ decimal number) }
-{
-    out.extend_from_slice(words)?;
-    let mut buffer = Buffer::new();
-    out.extend_from_slice(buffer.format(number).as_bytes())
-}
 
 /// The letter of an outcome.
 fn outcome_letter(outcome: Outcome) -> &'static [u8]

@@ -1,11 +1,14 @@
-//! The page of a journal for a browser: the journal, and behind each of its lines what is told by that step, so that a page has to
-//! work out nothing that a hub does.
+//! The page of a journal for a browser. Its data tell all that a hub does, so that the page has only to draw and to count.
 #![tactic(auto)]
 
 mod data;
 mod ends;
+mod entries;
 mod known;
 mod levels;
+mod number;
 mod page;
+mod stalls;
+mod viewer;
 
-pub use page::{Frame, page_text};
+pub use page::page_text;

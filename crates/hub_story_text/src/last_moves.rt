@@ -17,22 +17,22 @@ pub const PORT_NUMBERS: usize = 65_536;
 
 /// A process, and the place of its entry.
 #[derive(Clone, Copy, Debug, PartialEq, Eq)]
-pub(crate) struct Mover {
+pub struct Mover {
     /// The process.
-    pub(crate) pid: Pid,
+    pub pid: Pid,
     /// The place.
-    pub(crate) step: u32,
+    pub step: u32,
 }
 
 /// Of each port, by its number.
 #[derive(Drop)]
-pub(crate) struct LastMoves {
+pub struct LastMoves {
     /// Who was the last to send.
-    pub(crate) sent: Vec<Option<Mover>>,
+    pub sent: Vec<Option<Mover>>,
     /// Who was the last to receive a value.
-    pub(crate) received: Vec<Option<Mover>>,
+    pub received: Vec<Option<Mover>>,
     /// The exits that were done, in order.
-    pub(crate) left: Vec<Told>,
+    pub left: Vec<Told>,
 }
 
 /// On which port a case with this outcome sent a value.
@@ -69,7 +69,7 @@ fn set_mover(table: &mut Vec<Option<Mover>>, port: Option<Port>, mover: Mover)
 
 impl LastMoves {
     /// Nobody has.
-    pub(crate) fn new(alloc: Global) -> Result<LastMoves, AllocError>
+    pub fn new(alloc: Global) -> Result<LastMoves, AllocError>
         ensures none { (es : List Entry) → IfOk result (AreLast es []) }
         ensures whole { IfOk result IsWhole }
     {
@@ -114,11 +114,7 @@ impl LastMoves {
     }
 
     /// Takes in these events, in order, behind those so far.
-    pub(crate) fn note_all(
-        &mut self,
-        entries: &ShortEntries,
-        told: &[Told],
-    ) -> Result<(), AllocError>
+    pub fn note_all(&mut self, entries: &ShortEntries, told: &[Told]) -> Result<(), AllocError>
         requires { IsWhole self.old }
         ensures last { OnOk result (
             (before : List Told) → AreLast entries.now before self.old → AreLast entries.now (before ++ told.now) self.new) }
@@ -131,14 +127,14 @@ impl LastMoves {
     }
 
     /// Who was the last to send on the port.
-    pub(crate) fn sender(&self, port: Port) -> Option<Mover>
+    pub fn sender(&self, port: Port) -> Option<Mover>
         ensures { result ≡ mover_at self.now.sent.items port }
     {
         *self.sent.get(usize::from(port.0))?
     }
 
     /// Who was the last to receive from it.
-    pub(crate) fn receiver(&self, port: Port) -> Option<Mover>
+    pub fn receiver(&self, port: Port) -> Option<Mover>
         ensures { result ≡ mover_at self.now.received.items port }
     {
         *self.received.get(usize::from(port.0))?

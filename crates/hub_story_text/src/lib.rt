@@ -24,8 +24,9 @@ mod waits;
 
 pub use block::{Block, MOST_BLOCK};
 pub use hub_story::Window;
-pub use last_moves::{PORT_NUMBERS, got_port, sent_port};
+pub use last_moves::{LastMoves, Mover, PORT_NUMBERS, got_port, sent_port};
+pub use numbers::put_value;
 pub use packed_text::PackedText;
 pub use partners::all_partners;
-pub use steps::count_of;
+pub use steps::{count_of, stalled_of};
 pub use text::{push_story, story_text};

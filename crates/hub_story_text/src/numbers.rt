@@ -58,7 +58,7 @@ fn put_any_value(out: &mut Vec<u8>, value: Value) -> Result<(), NoMemory>
 
 /// Appends a value. Most are numbers.
 #[tactic(auto, using(hub_base::proofs::Values::field_number))]
-pub(crate) fn put_value(out: &mut Vec<u8>, value: Value) -> Result<(), NoMemory>
+pub fn put_value(out: &mut Vec<u8>, value: Value) -> Result<(), NoMemory>
     ensures { OnOk result (out.new.items ≡ out.old.items ++ value_field value) }
 {
     match value.as_num() {

@@ -39,7 +39,7 @@ pub fn count_of(told: &[Told], place: u32) -> usize
 }
 
 /// Those of these events that say that everyone waits.
-fn stalled_of(alloc: Global, came: &[Told]) -> Result<Vec<Told>, AllocError>
+pub fn stalled_of(alloc: Global, came: &[Told]) -> Result<Vec<Told>, AllocError>
     ensures { IfOk result (λ stalled. stalled.items ≡ filter (λ t. is_stalled t.event.what) came.now) }
 {
     let mut stalled = Vec::new(alloc);

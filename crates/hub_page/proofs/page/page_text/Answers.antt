@@ -1,0 +1,14 @@
+use Rattle.hub_story_text.specs.StoryText.{story_text}
+use Rattle.hub_page.specs.Data.{data_text}
+use Rattle.hub_page.specs.Page.{no_steps}
+use Rattle.hub_page.specs.Viewer.{after_text, before_text, between_text}
+use Rattle.hub_page.proofs.Lines.{five-parts}
+use Rattle.hub_page.proofs.page.page_text.Goals as goal
+
+pub returns : goal.returns
+returns c =
+    let es = c.args.journal.now.entries in
+    let told = c.args.story.now.told.items in
+    five-parts before_text (data_text c.args.journal.now.head es told) between_text (story_text no_steps es told) after_text _ _ _ _ _ _
+    c.new-out.ensures c.in_ok-push_before.ensures c.in_ok-push_known.ensures c.in_ok-push_between.ensures c.in_ok-push_story.ensures
+    c.in_ok-push_after.ensures

@@ -1,0 +1,87 @@
+-- What the line of a step tells of those whom it stalled: for each case of each of their calls the steps that moved values there last,
+-- and for whom the call perhaps waits. Other steps are named by how many steps ago they were asked.
+use Rattle.std.specs.Prelude.{ℕ, ◌+◌, ◌-◌, ◌==◌, ◌&&◌, not, Bool, false, List, [], ◌++◌, codes, decimal, Option, None, Some, if◌then◌else◌}
+use Rattle.std.specs.List.{flat_map, list_any}
+use Rattle.std.specs.Option.{option_or}
+use Rattle.hub_base.specs.declared.value.Port.{Port}
+use Rattle.hub_base.specs.declared.case.Case.{Case}
+use Rattle.hub_base.specs.declared.case.Case.TheVariants.{Send, Recv}
+use Rattle.hub_base.specs.Entry.{Entry}
+use Rattle.hub_base.specs.Ready.{port_of}
+use Rattle.hub_story.specs.declared.told.Told.{Told}
+use Rattle.hub_story.specs.Levels.{told_by}
+use Rattle.hub_story.specs.Passing.{cases_at}
+use Rattle.hub_story_text.specs.declared.last_moves.Mover.{Mover}
+use Rattle.hub_story_text.specs.LastMoves.{AreLast, last_sender, last_receiver}
+use Rattle.hub_page.specs.declared.stalls.Stall.{Stall}
+use Rattle.hub_page.specs.Known.{entries_of, told_of}
+
+-- ---- who was there last
+abbrev pub back_words : ℕ → Option Mover → List ℕ
+back_words place None = []
+back_words place (Some m) = decimal (place - m.step)
+
+abbrev pub last_words : ℕ → Port → Option Mover → Option Mover → List ℕ
+last_words place p sender receiver =
+    codes ";" ++ decimal p.0 ++ codes "L" ++ back_words place sender ++ codes "," ++ back_words place receiver
+
+-- ---- who perhaps waits for whom
+-- both send on one port, or both receive from it
+abbrev pub is_beside : Case → Case → Bool
+is_beside (Recv p) (Recv q) = p.0 == q.0
+is_beside (Send p v) (Send q u) = p.0 == q.0
+is_beside c d = false
+
+-- the call is of this process
+abbrev pub is_of : ℕ → Told → Bool
+is_of pid t = t.event.pid.0 == pid
+
+-- and waits beside that case
+abbrev pub waits_beside : List Entry → Case → ℕ → Told → Bool
+waits_beside es c pid t = is_of pid t && list_any (is_beside c) (cases_at es t.asked)
+
+-- the process was stalled too, is not the one that waits, and does not wait beside it
+abbrev pub can_help : List Entry → List Told → Told → Case → ℕ → Bool
+can_help es stalled own c pid = not (is_of pid own) && list_any (is_of pid) stalled && not (list_any (waits_beside es c pid) stalled)
+
+abbrev pub helper : List Entry → List Told → Told → Case → Option Mover → Option ℕ
+helper es stalled own c None = None
+helper es stalled own c (Some m) = if can_help es stalled own c m.pid.0 then Some m.pid.0 else None
+
+-- a receive perhaps waits for the last who sent there, or else for the last who received; a send the other way round
+abbrev pub whom : List Entry → List Told → Told → Option Mover → Option Mover → Case → Option ℕ
+whom es stalled own sender receiver (Recv p) =
+    option_or (helper es stalled own (Recv p) sender) (helper es stalled own (Recv p) receiver)
+whom es stalled own sender receiver (Send p v) =
+    option_or (helper es stalled own (Send p v) receiver) (helper es stalled own (Send p v) sender)
+
+abbrev pub whom_words : Told → Option ℕ → List ℕ
+whom_words own None = []
+whom_words own (Some pid) = codes ";" ++ decimal own.event.pid.0 ++ codes ">" ++ decimal pid
+
+-- ---- all
+-- of a case where these were the last
+abbrev pub case_words : List Entry → ℕ → List Told → Told → Option Mover → Option Mover → Case → List ℕ
+case_words es place stalled own sender receiver c =
+    last_words place (port_of c) sender receiver ++ whom_words own (whom es stalled own sender receiver c)
+
+-- by what is told until then
+abbrev pub waiting_words : List Entry → List Told → ℕ → List Told → Told → Case → List ℕ
+waiting_words es until place stalled own c =
+    case_words es place stalled own (last_sender es until (port_of c)) (last_receiver es until (port_of c)) c
+
+-- of a call
+abbrev pub call_words : List Entry → List Told → ℕ → List Told → Told → List ℕ
+call_words es until place stalled own = flat_map (waiting_words es until place stalled own) (cases_at es own.asked)
+
+-- of these calls, which the step at this place stalled
+abbrev pub stall_words : List Entry → List Told → ℕ → List Told → List ℕ
+stall_words es all place stalled = flat_map (call_words es (told_by (place + 1) all) place stalled) stalled
+
+-- ---- a stall, with what is known of it
+abbrev pub until : Stall → List Told
+until s = told_by (s.place + 1) (told_of s.known.now)
+
+-- the table tells who was the last by then
+abbrev pub IsStall : Stall → Type 0
+IsStall s = AreLast (entries_of s.known.now) (until s) s.last.now

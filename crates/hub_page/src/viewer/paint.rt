@@ -1,0 +1,150 @@
+//! `viewer/paint.js`, as `tools/embed_viewer.py` writes it.
+
+pub(super) const FIRST: &[u8] =
+    b"// Draws what is in view: from near by shapes that tell what they are, from farther off on a canvas. Colours are those of style.css.
+const HUES = 8, COLUMN = 2, hueOf = (port) => (port ? \"h\" + port % HUES : \"edge\");
+function node(tag, attributes, ...inside) {
+    const made = document.createElementNS(\"http://www.w3.org/2000/svg\", tag);
+    for (const [name, value] of Object.entries(attributes)) made.setAttribute(name, value);
+    made.append(...inside);
+    return made;
+}
+class Painter {
+    constructor(page) { Object.assign(this, { page, view: page.view, journal: page.journal }); }
+    paint(lanes, canvas) {
+        const { view } = this, { width, bottom: height } = view, isNear = view.steps <= MOST_NEAR;
+        const clip = { x: LEFT - 2, viewBox: `${LEFT - 2} 0 ${width} ${height}`, width, height };
+        lanes.setAttribute(\"height\", height);
+        lanes.setAttribute(\"class\", `${this.page.isFollowing ? \"following\" : \"\"} ${isNear ? \"\" : \"far\"}`);
+        lanes.replaceChildren(...this.names(), node(\"svg\", clip, ...(isNear ? this.shapes() : [])));
+        this.begin(canvas, width, height);
+        if (view.steps > MOST_SHAPES) this.paintCounts();
+        else if (!isNear) this.paintShapes();
+    }
+    names() {
+        const { view, journal } = this, name = (text, y, dim) => node(\"text\", { x: LEFT - 8, y, class: `name ${dim ? \"dim\" : \"\"}` }, text);
+        const line = (y, end, more = \"\") => node(\"path\", { d: `M${LEFT},${y}H${Math.max(LEFT, Math.min(view.width, end))}`, class: `line ${more}` });
+        const lanes = [...view.place].flatMap(([pid, { y, height }]) => {
+            const exit = journal.exits[pid] ?? Infinity, label = pid < journal.procs ? `P${pid}` : \"unknown\";
+            return [line(y, pid < journal.procs ? view.x(exit) : 0), name(height > FOLDED ? label : \"\", y, exit < view.first)];
+        });
+        return lanes.concat(view.strips().map((port, row) => [port, view.floor(row)]).flatMap(([port, floor]) =>
+            [name(`port ${port}`, floor - 8), line(floor, view.width), line(floor - STRIP + 8, view.width, \"full\")]));
+    }
+    shapes() {
+        const { view } = this, stalls = view.stalls(), rect = ({ title, ...more }, told = title) => node(\"rect\", more, node(\"title\", {}, told));
+        return [
+            ...stalls.flatMap((stall) => this.fields(stall)).map((field) => rect(field)), ...view.levels().map((level) => rect(this.level(level))),
+            ...view.arrows().flatMap((to) => this.arrow(to)), ...view.bars().flatMap((call) => [rect(this.bar(call), call.title), this.knob(call)]),
+            ...view.boxes().flatMap((step) => [rect(this.box(step), step.title), this.label(step)]), ...stalls.flatMap((stall) => this.guesses(stall)),
+        ];
+    }
+    // The signs of a step that its shapes share.
+    signs(step) {
+        const { place, port, end, shown: { side } } = step, { page } = this;
+        const signs = [hueOf(port), side, page.marks.has(place) && \"found\", place === page.chosen?.place && \"chosen\", step.isTrouble && \"trouble\",
+            { \"\": \"open\", d: \"drained\", x: \"cancelled\" }[end.letter], \"mc\".includes(step.letter) && \"thick\"];
+        return signs.filter(Boolean).join(\" \");
+    }
+    fields({ place, calls }) {
+        const { view } = this, width = Math.max(3, view.dots), places = calls.map((call) => view.place.get(this.journal.step(call).lane));
+        const x = view.x(place) - width / 2, title = `step ${place + 1} stalls everyone who is left`;
+        return places.filter(Boolean).map(({ y, height }) => ({ class: \"field\", x, y: y - height / 2, width, height, title }));
+    }
+    level({ row, port, from, until, count }) {
+        const { view } = this, x = Math.max(LEFT, view.x(from)), room = this.journal.rooms[port - 1], height = count * (STRIP - 8) / room;
+        const width = Math.max(1, Math.min(view.width, view.x(until)) - x), title = `port ${port} holds ${count} of ${room}`;
+        return { class: `level ${hueOf(port)}`, x, y: view.floor(row) - height, width, height, title };
+    }
+    arrow(to) {
+        const { view, page } = this, from = to.sender, [start, end] = [from, to].map((step) => view.place.get(step.lane));
+        const side = Math.sign(end.y - start.y), x = view.x(from.end.by), toX = view.x(to.end.by);
+        const y = start.y + (side || -1) * start.size / 2, toY = end.y - (side || 1) * end.size / 2, bend = side ? (y + toY) / 2 : y - 14;
+        const way = { d: `M${x},${y}C${x},${bend} ${toX},${bend} ${toX},${toY}`, \"data-follow\": to.place };
+        const arrow = { ...way, class: `arrow ${hueOf(to.port)} ${page.marks.has(to.place) ? \"found\" : \"\"}`, \"marker-end\": \"url(#tip)\" };
+        return [node(\"path\", arrow), node(\"path\", { class: \"reach\", ...way }, node(\"title\", {}, to.title))];
+    }
+    bar(call) {
+        const { view } = this, { y, size } = view.place.get(call.lane), height = size * 0.45, x = Math.max(LEFT - 2, view.x(call.place));
+        const width = Math.max(0, Math.min(view.width + 2, view.x(Math.min(call.end.by, this.journal.steps))) - x);
+        return { class: `bar ${this.signs(call)}`, x, y: y - height / 2, width, height, \"data-bar\": call.place };
+    }
+    knob(call) {
+        const { x, y, width, height, ...more } = this.bar(call), place = { cx: x + width, cy: y + height / 2, r: Math.min(5, height * 0.6) };
+        return call.end.letter ? node(\"circle\", { ...more, ...place, class: more.class.replace(\"bar\", \"knob\") }) : \"\";
+    }
+    box(step) {
+        const { view } = this, { y, size } = view.place.get(step.lane), width = view.boxWidth, small = view.dots < 5 ? \"small\" : \"\";
+        const place = { x: view.x(step.place) - width / 2, y: y - size / 2, width, height: size };
+        return { class: `box ${this.signs(step)} ${small}`, ...place, \"data-step\": step.place };
+    }
+    label(step) {
+        const { view } = this, { y, size } = view.place.get(step.lane), { label, value } = step;
+        const text = size > 9 && [`${label}:${readable(value)}`, label].slice(value === null).find((text) => text.length * 6.2 <= view.boxWidth);
+        return text ? node(\"text\", { class: `label ${this.signs(step)}`, x: view.x(step.place), y }, text) : \"\";
+    }
+    guesses({ place, guesses }) {
+        const { view } = this, x = view.x(place) + view.boxWidth / 2 + 3;
+        return Object.values(guesses).map((pair) => pair.map((pid) => view.place.get(pid))).filter(([from, to]) => from && to).map(([from, to]) => {
+            const far = x + (from.y < to.y ? 20 : 40), way = `M${x},${from.y}C${far},${from.y} ${far},${to.y} ${x},${to.y}`;
+            return node(\"path\", { class: \"guess\", d: way, \"marker-end\": \"url(#tip)\" });
+        });
+    }
+    begin(canvas, width, height) {
+        const fine = devicePixelRatio || 1;
+        [canvas.width, canvas.height, canvas.style.height] = [Math.round(width * fine), Math.round(height * fine), height + \"px\"];
+        [this.style, this.colours] = [getComputedStyle(canvas), {}];
+        this.pen = Object.assign(canvas.getContext(\"2d\"), { font: \"11px system-ui, sans-serif\" });
+        this.pen.scale(fine, fine);
+    }
+    colour(name) { return this.colours[name] ??= this.style.getPropertyValue(\"--\" + name); }
+    fill(name, x, y, width, height) { Object.assign(this.pen, { fillStyle: this.colour(name) }).fillRect(x, y, width, height); }
+    paintShapes() {
+        const { view } = this, shapes = [...view.levels().map((level) => this.level(level)), ...view.bars().map((call) => this.bar(call)),
+            ...view.boxes().map((step) => this.box(step)), ...view.stalls().flatMap((stall) => this.fields(stall))];
+        const colourOf = (signs) => (/trouble|field/.test(signs) ? \"trouble\" : /h\\d|edge/.exec(signs)[0]);
+        for (const { class: signs, x, y, width, height } of shapes) this.fill(colourOf(signs), x, y, width, height);
+    }
+    // In columns of dots the waits as a band as high as their share, the steps as a thinner one on it, and troubles.
+    paintCounts() {
+        const { view, journal } = this, width = Math.floor(view.width - LEFT - RIGHT), scale = view.steps / width;
+        const edge = (column) => Math.min(journal.steps, view.first + column * scale);
+        const bands = [[\"waited\", \"h1\", 0.8], [\"asked\", \"edge\", 1.2], [\"troubles\", \"trouble\", Infinity]];
+        for (const [name, colour, weight] of bands) for (const [pid, { y, height }] of view.place) {
+            const highest = height - 2, sizeOf = (share) => share && Math.min(1, share * weight) * highest;
+            this.fillColumns(colour, LEFT, width, y, (column) => sizeOf(journal.share(name, pid, edge(column), edge(column + COLUMN))));
+        }
+        for (const [row, port] of view.strips().entries()) {
+            const one = (STRIP - 8) / journal.rooms[port - 1], sizeOf = (column) => one * journal.mostOf(port, edge(column), edge(column + COLUMN));
+            this.fillColumns(hueOf(port), LEFT, width, view.floor(row), sizeOf, 1);
+        }
+    }
+    fillColumns(colour, left, width, y, sizeOf, above = 0.5) {
+";
+
+pub(super) const SECOND: &[u8] = b"        this.pen.fillStyle = this.colour(colour);
+        for (let column = 0; column < width; column += COLUMN) {
+            const size = sizeOf(column);
+            if (size > 0.2) this.pen.fillRect(left + column, y - size * above, COLUMN, size);
+        }
+    }
+    paintAxis(canvas) {
+        const { view } = this, [first, end] = view.range(), least = (26 + 6 * String(end).length) / view.dots;
+        const power = 10 ** Math.max(0, Math.floor(Math.log10(least))), every = power * [1, 2, 5, 10].find((times) => times * power >= least);
+        this.begin(canvas, view.width, AXIS);
+        Object.assign(this.pen, { textAlign: \"center\", fillStyle: this.colour(\"dim\") }).fillText(\"step\", LEFT - 36, 14);
+        for (let step = Math.ceil((first + 1) / every) * every; step <= end; step += every) this.pen.fillText(step, view.x(step - 1), 14);
+    }
+    // The whole: how many wait, where it stalled, and what was found.
+    paintWhole(canvas, found) {
+        const { journal } = this, { procs, stalls } = journal, count = Math.max(1, journal.steps), width = canvas.parentElement.clientWidth;
+        const x = (step) => Math.floor(step / scale), scale = count / width;
+        this.begin(canvas, width, 54);
+        const waiting = (first, end) => numbers(0, procs).reduce((sum, lane) => sum + journal.share(\"waited\", lane, first, end), 0) / procs;
+        this.fillColumns(\"h1\", 0, width, 48, (column) => 32 * waiting(column * scale, (column + COLUMN) * scale), 1);
+        for (const place of stalls) this.fill(\"trouble\", x(place), 16, Math.max(2, x(1)), 32);
+        for (const column of new Set(found.map(x))) this.fill(\"on\", column, 48, 2, 6);
+        Object.assign(this.pen, { fillStyle: this.colour(\"dim\") }).fillText(`how many of ${procs} wait${stalls.length ? \"; orange: deadlocks\" : \"\"}`, 6, 11);
+    }
+}
+";

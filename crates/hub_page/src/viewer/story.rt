@@ -1,0 +1,5 @@
+//! `viewer/story.html`, as `tools/embed_viewer.py` writes it.
+
+pub(super) const TEXT: &[u8] = b"</script>
+<script type=\"text/plain\" id=\"story\">
+";

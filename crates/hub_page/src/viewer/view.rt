@@ -1,0 +1,70 @@
+//! `viewer/view.js`, as `tools/embed_viewer.py` writes it.
+
+pub(super) const TEXT: &[u8] =
+    b"// What is in view: a window of steps, lanes of processes, strips of ports, and what stands there.
+const LEFT = 64, RIGHT = 44, AXIS = 26, STRIP = 24, FOLDED = 8, LEAST_LANE = 16, MOST_LANE = 40, NEAREST = 90, CLOSE = 60;
+const MOST_NEAR = 500, MOST_SHAPES = 6000;  // so many steps have arrows, and tell what they are; so many are drawn one by one
+class View {
+    constructor(journal) {
+        // The step at the left edge and how many are in view, with fractions; and the ports that are not shown.
+        Object.assign(this, { journal, width: 100, height: 100, first: 0, steps: Math.max(1, journal.steps), hidden: new Set() });
+        this.lanes = journal.waits.map((_, pid) => ({ pid, form: \"open\" }));
+    }
+    get dots() { return (this.width - LEFT - RIGHT) / this.steps; }
+    get boxWidth() { return Math.min(66, Math.max(1, this.dots * 0.9)); }
+    x(step) { return LEFT + (step + 0.5 - this.first) * this.dots; }
+    stepAt(x) { return Math.floor(this.first + (x - LEFT) / this.dots); }
+    range() { return [Math.floor(this.first), Math.min(this.journal.steps, Math.ceil(this.first + this.steps))]; }
+    isShown(...steps) { return steps.every((step) => this.place.has(step.lane)); }
+    // The ports that have a strip: those that held a value and are not hidden.
+    strips() { return numbers(1, this.journal.ports + 1).filter((port) => this.journal.rooms[port - 1] && !this.hidden.has(port)); }
+    floor(row) { return this.stripTop + (row + 1) * STRIP - 4; }
+    arrange() {
+        const onTop = (lane) => lane.form === \"on top\", isFolded = (lane) => lane.form === \"folded\";
+        const shown = this.lanes.filter(({ form }) => form !== \"hidden\").sort((one, other) => onTop(other) - onTop(one));
+        const folded = shown.filter(isFolded).length, strips = this.strips().length, room = this.height - AXIS - folded * FOLDED - strips * STRIP - 18;
+        const size = Math.min(MOST_LANE, Math.max(LEAST_LANE, Math.floor(room / Math.max(1, shown.length - folded))));
+        Object.assign(this, { stripTop: AXIS + 10, place: new Map() });
+        for (const lane of shown) {
+            const height = isFolded(lane) ? FOLDED : size;
+            this.place.set(lane.pid, { y: this.stripTop + height / 2 - 6, height, size: Math.max(4, Math.min(20, height - 6)) });
+            this.stripTop += height;
+        }
+        this.bottom = Math.max(this.height, this.stripTop + strips * STRIP + 8);
+    }
+    show(first, steps) {
+        const count = Math.max(1, this.journal.steps);
+        this.steps = Math.min(count, Math.max((this.width - LEFT) / NEAREST, steps));
+        this.first = Math.min(count - this.steps, Math.max(0, first));
+    }
+    pan(steps) { this.show(this.first + steps, this.steps); }
+    zoom(factor, x = (LEFT + this.width) / 2) {
+        const share = (x - LEFT) / this.dots / this.steps, step = this.first + share * this.steps;
+        this.show(0, this.steps * factor);
+        this.show(step - share * this.steps, this.steps);
+    }
+    // Brings a step into view, so near that it can be seen.
+    reveal(step) {
+        const steps = this.steps > MOST_NEAR ? CLOSE : this.steps, isOff = Math.abs(step - this.first - steps / 2) > steps * 0.42;
+        if (isOff || this.steps > MOST_NEAR) this.show(step + 0.5 - steps / 2, steps);
+    }
+    boxes() { return this.journal.stepsOf(...this.range()).filter((step) => this.isShown(step)); }
+    bars() { return this.journal.goingOn(...this.range()).filter((call) => call.waits && this.isShown(call)); }
+    // The receivers of the values of which at least one end is in view.
+    arrows() {
+        const receivers = this.journal.endsOf(...this.range()).map((call) => call.receiver);
+        return [...new Set(receivers)].filter((to) => to && this.isShown(to, to.sender));
+    }
+    // What ports hold as far as it can be seen: each count from one step until another.
+    levels() {
+        const { journal } = this, [first, last] = this.range(), end = Math.min(journal.steps, this.stepAt(this.width) + 2), at = journal.blockAt(first);
+        const before = (port) => ({ port, from: at * journal.size - 1, count: journal.level[at * journal.width + port] });
+        const told = new Map(this.strips().map((port) => [port, [before(port)]]));
+        const hold = (from, port, count) => count !== told.get(port)?.at(-1).count && told.get(port)?.push({ port, from, count });
+        journal.tell(at * journal.size, Math.max(end, last), { hold });
+        const levels = [...told.values()].flatMap((own, row) => own.map((level, at) => ({ ...level, row, until: own[at + 1]?.from ?? Math.max(end, first) })));
+        return levels.filter((level) => level.count && level.until >= first && level.from < last);
+    }
+    stalls() { return this.journal.stallsOf(...this.range()); }
+}
+";

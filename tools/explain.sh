@@ -60,7 +60,7 @@ else
     case $status in 0 | 4) ;; *) exit "$status" ;; esac
 fi
 "$tool" story "$@" "$folder/journal" -o "$folder/story.txt"
-"$root/tools/page.py" "$folder/journal" > "$folder/page.html"
+"$tool" page "$folder/journal" -o "$folder/page.html"
 echo "$folder/story.txt"
 if [ $# = 0 ] && [ "$(wc -l < "$folder/journal")" -gt 302 ]; then
     "$root/tools/overview.py" "$folder/journal" > "$folder/overview.svg"

@@ -234,7 +234,9 @@ count $? "pictures: $(cat "$work/pictures")"
 "$root/tools/viewers.py" "$tool" > "$work/viewers" 2>&1
 count $? "diagrams and traces: $(cat "$work/viewers")"
 grep '^skipped: ' "$work/pictures"
-"$root/tools/page_test.py" > "$work/pages" 2>&1
+"$root/tools/embed_viewer.py" --check
+count $? "the viewer in hub_page"
+"$root/tools/page_test.py" "$tool" > "$work/pages" 2>&1
 count_or_skip $? "pages: $(cat "$work/pages")"
 skipped=$((skipped + $(skipped_in "$work/pictures")))
 wait "$stories"

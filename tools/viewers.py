@@ -2,8 +2,8 @@
 """viewers.py TOOL: has the built chanhub_tool (TOOL) write sequence diagrams for Mermaid and traces in Chrome's format of the
 examples, of random journals and of long ones, and compares them with a second reading of docs/FORMATS.md, "Diagrams and traces", by the
 events of model.py. Looks at each text by itself too: at the lines of a diagram by Mermaid's grammar, and at the events of a trace by
-the rules of their format. Runs the rows of tests/viewers.toml, and both with each allocation refused, which needs a C compiler. The
-last line counts: 'N passed, M failed'."""
+the rules of their format. Runs the rows of tests/viewers.toml, which have data of pages too, and all with each allocation refused,
+which needs a C compiler. Pages are compared further by page_test.py. The last line counts: 'N passed, M failed'."""
 import collections
 import json
 import re
@@ -12,6 +12,8 @@ import sys
 
 sys.dont_write_bytecode = True
 import model
+import page
+import story_model
 from story import RANDOM_JOURNALS, WINDOWED, Program, build_refuse, count, journals, refused, survives_refusals, table
 
 MOST_STEPS = 200
@@ -239,6 +241,14 @@ def worked(program, _):
             yield f"{row['name']}: trace", program.run(["trace"], journal) == (0, wanted, b"")
             yield f"{row['name']}: trace by the second reading", in_any_order(events_of(Journal(row["journal"]))) == in_any_order(json.loads(wanted)["traceEvents"])
             yield f"{row['name']}: trace by the rules", is_trace(wanted)
+        if "page" in row:
+            yield f"{row['name']}: page", page_of(row["page"], row["journal"]).encode() == program.run(["page"], journal)[1]
+
+
+def page_of(data, journal):
+    """The page with these data, which were written by hand."""
+    end = story_model.Story(journal).text(1, 0).decode()
+    return page.joined(page.BEFORE) + data + page.joined(page.BETWEEN) + end + page.joined(page.AFTER)
 
 
 def diagrams(program, work):
@@ -290,7 +300,7 @@ def long_traces(program, _):
 
 def faults(program, _):
     journal = b"chanhub journal 1\nprocs 0\n"
-    for command in ("mermaid", "trace"):
+    for command in ("mermaid", "trace", "page"):
         yield f"{command}: a faulty journal", program.run([command], journal) == refused("line 2: bad procs")
         yield f"{command}: a full device", program.run_to_full([command], b"chanhub journal 1\nprocs 1\n0 exit\n") == (1, b"chanhub: write failed\n")
 
@@ -298,7 +308,7 @@ def faults(program, _):
 def refused_allocations(program, work):
     refuse = build_refuse(work)
     for row in table("viewers")["row"]:
-        for command in ("mermaid", "trace"):
+        for command in ("mermaid", "trace", "page"):
             yield f"{row['name']}: {command}", survives_refusals(program, [command], row["journal"].encode(), refuse)
 
 

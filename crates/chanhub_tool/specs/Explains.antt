@@ -16,6 +16,7 @@ use Rattle.hub_picture.specs.Drawings.{IsDrawingOf}
 use Rattle.hub_picture.specs.Svg.Page.{svg_text}
 use Rattle.hub_trace.specs.Diagram.{mermaid_text}
 use Rattle.hub_trace.specs.Trace.{trace_text}
+use Rattle.hub_page.specs.Page.{page_text}
 use Rattle.chanhub_tool.specs.declared.asked.Asked.{Asked}
 use Rattle.chanhub_tool.specs.declared.asked.Form.{Form}
 use Rattle.chanhub_tool.specs.declared.asked.Form.TheVariants as form
@@ -37,6 +38,7 @@ IsIn form.Text w given text = text ≡ story_text w given.entries (told given.he
 IsIn form.Picture w given text = IsPicture w given text
 IsIn form.Mermaid w given text = text ≡ mermaid_text w given.head.procs given.entries (told given.head given.entries)
 IsIn form.Trace w given text = text ≡ trace_text given.head.procs given.entries (told given.head given.entries)
+IsIn form.Page w given text = text ≡ page_text given.head given.entries (told given.head given.entries)
 
 -- the first bytes are a journal's text, and the others what is asked of it
 pub record IsExplanation (asked : Asked) (bytes text : List ℕ) : Type 0 where

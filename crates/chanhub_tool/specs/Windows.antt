@@ -4,7 +4,7 @@ use Rattle.hub_story.specs.declared.window.Window.{Window}
 use Rattle.chanhub_tool.specs.declared.asked.TheConstants.{MOST_DRAWN, MOST_IN_DIAGRAM}
 use Rattle.chanhub_tool.specs.declared.asked.Asked.{Asked}
 use Rattle.chanhub_tool.specs.declared.asked.Form.{Form}
-use Rattle.chanhub_tool.specs.declared.asked.Form.TheVariants.{Text, Picture, Mermaid, Trace}
+use Rattle.chanhub_tool.specs.declared.asked.Form.TheVariants.{Text, Picture, Mermaid, Trace, Page}
 use Rattle.chanhub_tool.specs.declared.asked.Shown.{Shown}
 use Rattle.chanhub_tool.specs.declared.asked.Shown.TheVariants.{All, Steps}
 use Rattle.chanhub_tool.specs.declared.fault.StoryFault.{StoryFault}
@@ -16,6 +16,7 @@ too_long Text count = false
 too_long Picture count = nat_lt MOST_DRAWN count
 too_long Mermaid count = false
 too_long Trace count = false
+too_long Page count = false
 
 -- so many steps are never shown in this form
 abbrev pub too_many : Form → ℕ → Bool
@@ -23,6 +24,7 @@ too_many Text count = false
 too_many Picture count = false
 too_many Mermaid count = nat_lt MOST_IN_DIAGRAM count
 too_many Trace count = false
+too_many Page count = false
 
 -- the places of these steps, which are counted from 1, in a journal of so many
 abbrev pub shown_of : Form → Shown → ℕ → Result Window StoryFault

@@ -17,6 +17,8 @@ pub enum Form {
     Mermaid,
     /// As a trace in Chrome's format.
     Trace,
+    /// As a page for a browser.
+    Page,
 }
 
 /// Which of its steps.
@@ -54,7 +56,7 @@ fn too_long(form: Form, count: usize) -> bool
 {
     match form {
         Form::Picture => count > MOST_DRAWN,
-        Form::Text | Form::Mermaid | Form::Trace => false,
+        Form::Text | Form::Mermaid | Form::Trace | Form::Page => false,
     }
 }
 
@@ -64,7 +66,7 @@ fn too_many(form: Form, count: u32) -> bool
 {
     match form {
         Form::Mermaid => count > MOST_IN_DIAGRAM,
-        Form::Text | Form::Picture | Form::Trace => false,
+        Form::Text | Form::Picture | Form::Trace | Form::Page => false,
     }
 }
 

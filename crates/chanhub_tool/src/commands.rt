@@ -3,6 +3,7 @@
 mod chain;
 mod explore;
 mod mermaid;
+mod page;
 mod picture;
 mod serve;
 mod story;
@@ -10,17 +11,17 @@ mod trace;
 
 use crate::asked::Form;
 use crate::explain::explain_given;
-use crate::given::{Given, read_given};
+use crate::given::{Given, read_given, read_whole};
 use chain::{check_files, read_files};
 use clap::ArgMatches;
 use explore::{Exploring, explore_given, read_exploring};
 use hub_replay::Sink;
 pub(crate) use mermaid::diagram_of;
+pub(crate) use page::page_of;
 pub(crate) use picture::picture_of;
 use serve::serve_streams;
 use std::alloc::{AllocError, Global};
 pub(crate) use story::story_of_steps;
-use trace::read_whole;
 pub(crate) use trace::trace_of;
 
 /// What the program is asked to do.
@@ -34,6 +35,8 @@ pub(crate) enum Command<'a> {
     Mermaid(Given<'a>),
     /// `trace`: to write it as a trace.
     Trace(Given<'a>),
+    /// `page`: to write it as a page for a browser.
+    Page(Given<'a>),
     /// `serve`: to answer a journal's lines as they come.
     Serve,
     /// `chain`: to check that these files are the chapters of one journal.
@@ -68,6 +71,7 @@ pub(crate) fn grammar<'a>(alloc: Global) -> Result<clap::Command<'a>, AllocError
         .subcommand(picture::grammar(alloc)?)?
         .subcommand(mermaid::grammar(alloc)?)?
         .subcommand(trace::grammar(alloc)?)?
+        .subcommand(page::grammar(alloc)?)?
         .subcommand(serve::grammar(alloc))?
         .subcommand(chain::grammar(alloc)?)?
         .subcommand(explore::grammar(alloc)?)
@@ -86,6 +90,7 @@ pub(crate) fn command_of<'a>(
         "picture" => Ok(read_given(found).map(Command::Picture)),
         "mermaid" => Ok(read_given(found).map(Command::Mermaid)),
         "trace" => Ok(Some(Command::Trace(read_whole(found)))),
+        "page" => Ok(Some(Command::Page(read_whole(found)))),
         "serve" => Ok(Some(Command::Serve)),
         "chain" => Ok(Some(Command::Chain(read_files(alloc, found)?))),
         "explore" => Ok(read_exploring(found).map(Command::Explore)),
@@ -100,6 +105,7 @@ pub(crate) fn carry_out<X: Sink>(rt: &HostRuntime, command: Command<'_>, errors:
         Command::Picture(given) => explain_given(rt, Form::Picture, given, errors),
         Command::Mermaid(given) => explain_given(rt, Form::Mermaid, given, errors),
         Command::Trace(given) => explain_given(rt, Form::Trace, given, errors),
+        Command::Page(given) => explain_given(rt, Form::Page, given, errors),
         Command::Serve => serve_streams(rt, errors),
         Command::Chain(files) => check_files(rt, &files, errors),
         Command::Explore(given) => explore_given(rt, given, errors),

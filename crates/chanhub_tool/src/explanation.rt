@@ -9,7 +9,7 @@ ghost use Rattle.chanhub_tool.specs.Explains.{Explains, HasNone, IsExplanation};
 ghost use Rattle.chanhub_tool.specs.Promises.{HasRefused};
 
 use crate::asked::{Asked, Form, window_of};
-use crate::commands::{diagram_of, picture_of, story_of_steps, trace_of};
+use crate::commands::{diagram_of, page_of, picture_of, story_of_steps, trace_of};
 use crate::fault::StoryFault;
 use crate::writing::{room, write_text};
 use hub_base::{MOST_BYTES, ReadFault};
@@ -38,6 +38,7 @@ fn explanation(alloc: Global, asked: Asked, bytes: Vec<u8>) -> Result<PackedText
         Form::Picture => Ok(picture_of(alloc, &journal, window)?),
         Form::Mermaid => Ok(diagram_of(alloc, &journal, window)?),
         Form::Trace => Ok(trace_of(alloc, &journal)?),
+        Form::Page => Ok(page_of(alloc, &journal)?),
     }
 }
 

@@ -139,3 +139,12 @@ pub(crate) fn read_given<'a>(found: &ArgMatches<'a>) -> Option<Given<'a>> {
         output: file_of(found.get_str("output")),
     })
 }
+
+/// What `clap` found of a command over a whole journal.
+pub(crate) fn read_whole<'a>(found: &ArgMatches<'a>) -> Given<'a> {
+    Given {
+        shown: Shown::All,
+        file: file_of(found.get_str("file")),
+        output: file_of(found.get_str("output")),
+    }
+}

@@ -5,10 +5,8 @@ ghost use Rattle.hub_base.specs.Head.{IsHead};
 ghost use Rattle.hub_story.specs.Told.{told};
 ghost use Rattle.hub_trace.specs.Trace.{trace_text};
 
-use crate::asked::Shown;
-use crate::files::file_of;
-use crate::given::{Given, whole_journal_command};
-use clap::{ArgMatches, Command};
+use crate::given::whole_journal_command;
+use clap::Command;
 use hub_base::NoMemory;
 use hub_core::ShortJournal;
 use hub_story::short_story_of;
@@ -23,15 +21,6 @@ pub(super) fn grammar<'a>(alloc: Global) -> Result<Command<'a>, AllocError> {
         "Writes a journal as a trace in Chrome's format, which ui.perfetto.dev opens; a step is a microsecond there",
         "chanhub_tool trace [FILE] [-o OUT]",
     )
-}
-
-/// What `clap` found.
-pub(super) fn read_whole<'a>(found: &ArgMatches<'a>) -> Given<'a> {
-    Given {
-        shown: Shown::All,
-        file: file_of(found.get_str("file")),
-        output: file_of(found.get_str("output")),
-    }
 }
 
 /// The trace of a journal.

@@ -19,7 +19,7 @@ returns-clause-ok c =
       window = c.in_ok-window.window;
       spelled = c.in_ok-journal.ensures.found;
       shown = sym (rw (c.len.ensures, c.entries.ensures) at c.in_ok-window.ensures);
-      is = rw c.in-Trace.is c.in_ok-trace_of-in-Trace.ensures;
+      is = rw c.in-Page.is c.in_ok-page_of-in-Page.ensures;
     }
 
 pub diagram_of-requires-clause-few : goal.diagram_of-requires-clause-few
@@ -27,3 +27,6 @@ diagram_of-requires-clause-few c = few-entries _ _ _ c.in_ok-journal.ensures.fou
 
 pub trace_of-requires-clause-few : goal.trace_of-requires-clause-few
 trace_of-requires-clause-few c = few-entries _ _ _ c.in_ok-journal.ensures.found
+
+pub page_of-requires-clause-few : goal.page_of-requires-clause-few
+page_of-requires-clause-few c = few-entries _ _ _ c.in_ok-journal.ensures.found

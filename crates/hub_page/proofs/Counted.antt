@@ -27,14 +27,15 @@ levels-more es before t old new was next = record {
       ∙ sym (more-told (moved_by (got_on p) es) before t);
 }
 
-none-at : (n k : ℕ) → slice_index_or (replicate {A = ℕ} n zero) k zero ≡ zero
-none-at zero k = refl
-none-at (suc n) zero = refl
-none-at (suc n) (suc k) = none-at n k
+-- a table that is the same everywhere
+pub all-same : {A : Type 0} (a : A) (n k : ℕ) → slice_index_or (replicate n a) k a ≡ a
+all-same a zero k = refl
+all-same a (suc n) zero = refl
+all-same a (suc n) (suc k) = all-same a n k
 
 pub none-yet : (es : List Entry) (levels : Levels) (n : ℕ) → levels.sent.items ≡ replicate n zero → levels.received.items ≡ replicate n zero →
     AreLevels es [] levels
 none-yet es levels n sent received = record {
-  sent = λ p. ap (λ l. count_at l p) sent ∙ none-at n p.0;
-  received = λ p. ap (λ l. count_at l p) received ∙ none-at n p.0;
+  sent = λ p. ap (λ l. count_at l p) sent ∙ all-same zero n p.0;
+  received = λ p. ap (λ l. count_at l p) received ∙ all-same zero n p.0;
 }

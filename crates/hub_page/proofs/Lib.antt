@@ -1,2 +1,6 @@
+mod Blocks
 mod Counted
 mod Lines
+mod Rests
+mod Sums
+mod Waiting

@@ -1,5 +1,5 @@
 -- A journal with what is known of it.
-use Rattle.std.specs.Prelude.{List, length}
+use Rattle.std.specs.Prelude.{ℕ, List, length}
 use Rattle.hub_base.specs.Entry.{Entry}
 use Rattle.hub_story.specs.declared.told.Told.{Told}
 use Rattle.hub_story.specs.Stories.{IsShortStoryOf}
@@ -9,7 +9,11 @@ use Rattle.hub_page.specs.declared.known.Known.{Known}
 abbrev pub entries_of : Known → List Entry
 entries_of k = k.journal.now.entries
 
--- what is told of them
+-- how many processes there are
+abbrev pub procs_of : Known → ℕ
+procs_of k = k.journal.now.head.procs
+
+-- what is told of the entries
 abbrev pub told_of : Known → List Told
 told_of k = k.story.now.told.items
 

@@ -16,6 +16,10 @@ level_after es all p place = sent_by es all p (place + 1) - received_by es all p
 abbrev pub count_at : List ℕ → Port → ℕ
 count_at table p = slice_index_or table p.0 0
 
+-- how many values the port holds
+abbrev pub level_of : Levels → Port → ℕ
+level_of levels p = count_at levels.sent.items p - count_at levels.received.items p
+
 -- with one value more on the port, if there is one
 abbrev pub with_one : List ℕ → Option Port → List ℕ
 with_one table None = table

@@ -3,6 +3,14 @@ pub mod Levels
 pub mod Ends
 pub mod Stalls
 pub mod Known
+pub mod Places
+pub mod Lanes
+pub mod ParkedCalls
+pub mod Ports
+pub mod Past
+pub mod Block
+pub mod Sketch
 pub mod Data
 pub mod Viewer
 pub mod Page
+pub mod PageRows

@@ -1,109 +1,116 @@
 //! The data of a page.
 
-ghost use Rattle.std.specs.Prelude.{◌≡◌, ◌<◌, ◌+◌, ◌-◌, ◌^◌, ◌++◌, [], codes, filter, length, OnOk};
-ghost use Rattle.std.specs.List.{flat_map};
+ghost use Rattle.std.specs.Prelude.{◌≡◌, ◌<◌, ◌+◌, ◌-◌, ◌*◌, ◌^◌, ◌++◌, length, IfOk, OnOk};
+ghost use Rattle.std.specs.List.{flat_map, range_with_len};
 ghost use Rattle.hub_base.specs.Head.{IsHead};
 ghost use Rattle.hub_base.specs.Reading.{head_lines};
-ghost use Rattle.hub_story.specs.Levels.{told_by};
-ghost use Rattle.hub_story.specs.Waiting.{is_stalled};
-ghost use Rattle.hub_story_text.specs.LastMoves as moves;
-ghost use Rattle.hub_story_text.specs.LastMoves.{AreLast};
-ghost use Rattle.hub_page.specs.Data.{data_text, steps_text};
-ghost use Rattle.hub_page.specs.Ends.{told_words};
-ghost use Rattle.hub_page.specs.Entries.{entry_words};
-ghost use Rattle.hub_page.specs.Known.{IsKnown, entries_of, told_of};
-ghost use Rattle.hub_page.specs.Levels.{AreLevels, IsWhole};
-ghost use Rattle.hub_page.specs.Stalls.{stall_words};
+ghost use Rattle.hub_page.specs.Block.{IsBlock};
+ghost use Rattle.hub_page.specs.Data.{block_begin, block_count, block_text, data_text};
+ghost use Rattle.hub_page.specs.Known.{IsKnown, entries_of, procs_of, told_of};
+ghost use Rattle.hub_page.specs.Past.{IsPast, IsRest};
+ghost use Rattle.hub_page.specs.Sketch.{sketch_words};
 
-use crate::ends::put_all_told;
-use crate::entries::put_entry;
+use crate::block::Block;
 use crate::known::Known;
-use crate::levels::Levels;
-use crate::stalls::{Stall, put_stall};
-use hub_base::{Case, EntryRef, Head, NoMemory};
+use crate::limits::BLOCK;
+use crate::past::Past;
+use crate::sketch::{Sketch, put_sketch};
+use crate::step_lines::push_lines;
+use hub_base::{Head, NoMemory};
 use hub_story::Told;
-use hub_story_text::{LastMoves, PackedText, count_of, stalled_of};
+use hub_story_text::PackedText;
 use hub_text::write_head;
-use std::alloc::{AllocError, Global};
+use std::alloc::Global;
 
-/// Appends what is told of those of these calls that the step at this place stalled.
-fn put_stalled(
-    out: &mut Vec<u8>,
-    known: &Known<'_>,
-    last: &LastMoves,
-    place: u32,
-    came: &[Told],
-) -> Result<(), AllocError>
-    requires { AreLast (entries_of known.now) (told_by (place + 1) (told_of known.now)) last.now }
-    ensures { OnOk result (out.new.items ≡ out.old.items
-        ++ stall_words (entries_of known.now) (told_of known.now) place (filter (λ t. is_stalled t.event.what) came.now)) }
+/// How many blocks so many steps have.
+fn block_count(count: usize) -> usize
+    requires { count < 2 ^ 32 - 1 }
+    ensures value { result ≡ block_count count }
+    ensures few { BLOCK * result < 2 ^ 33 }
 {
-    let stalled = stalled_of(*out.allocator(), came)?;
-    put_stall(
-        out,
-        &Stall {
-            known,
-            place,
-            last,
-            stalled: &stalled,
-        },
-    )
+    (count + (BLOCK - 1)) / BLOCK
 }
 
-/// Appends the line of the entry at this place, by whose step these events came.
-fn put_line(
-    out: &mut Vec<u8>,
-    known: &Known<'_>,
-    levels: &Levels,
-    last: &LastMoves,
-    place: u32,
-    entry: &EntryRef<'_>,
-    came: &[Told],
-) -> Result<(), NoMemory>
-    requires known { IsKnown known.now }
-    requires levels { AreLevels (entries_of known.now) (told_by (place + 1) (told_of known.now)) levels.now }
-    requires last { AreLast (entries_of known.now) (told_by (place + 1) (told_of known.now)) last.now }
-    ensures { OnOk result (out.new.items ≡ out.old.items ++ (entry_words entry.now
-        ++ flat_map (told_words (entries_of known.now) (told_of known.now) place) came.now
-        ++ stall_words (entries_of known.now) (told_of known.now) place (filter (λ t. is_stalled t.event.what) came.now)
-        ++ codes "\n")) }
+/// Where the block of this number begins, of so many steps.
+fn block_begin(count: usize, number: usize) -> usize
+    requires { BLOCK * number < 2 ^ 33 }
+    ensures { result ≡ block_begin count number }
 {
-    put_entry(out, entry)?;
-    put_all_told(out, known, levels, place, came)?;
-    put_stalled(out, known, last, place, came)?;
-    out.extend_from_slice(b"\n")?;
+    (BLOCK * number).min(count)
+}
+
+/// Appends the sketch of a block that ends before this place.
+fn push_sketch(
+    out: &mut PackedText,
+    line: &mut Vec<u8>,
+    past: &Past,
+    block: &Block,
+    known: &Known<'_>,
+    end: usize,
+) -> Result<(), NoMemory>
+    requires few { end < 2 ^ 32 }
+    requires past { IsPast known.now end past.now }
+    requires block { IsBlock (entries_of known.now) (told_of known.now) (procs_of known.now) end block.now }
+    ensures { OnOk result (out.new.items ≡ out.old.items
+        ++ sketch_words (entries_of known.now) (told_of known.now) (procs_of known.now) block.now.first end) }
+{
+    let sketch = Sketch {
+        known,
+        past,
+        block,
+        end: end as u32,
+    };
+    line.clear();
+    put_sketch(line, &sketch)?;
+    out.push(line)?;
     Ok(())
 }
 
-/// Appends the lines of all entries.
-fn push_steps(
+/// Appends the block of this number, and answers what comes behind it.
+fn push_block<'a>(
     out: &mut PackedText,
     line: &mut Vec<u8>,
-    levels: &mut Levels,
-    last: &mut LastMoves,
+    past: &mut Past,
+    known: &Known<'_>,
+    rest: &'a [Told],
+    number: usize,
+) -> Result<&'a [Told], NoMemory>
+    requires known { IsKnown known.now }
+    requires few { length (entries_of known.now) < 2 ^ 32 - 1 }
+    requires number { BLOCK * (number + 1) < 2 ^ 33 }
+    requires rest { IsRest (block_begin (length (entries_of known.now)) number) (told_of known.now) rest.now }
+    requires past { IsPast known.now (block_begin (length (entries_of known.now)) number) past.old }
+    ensures text { OnOk result (out.new.items ≡ out.old.items
+        ++ block_text (procs_of known.now) (entries_of known.now) (told_of known.now) number) }
+    ensures rest { IfOk result (λ rest. IsRest (block_begin (length (entries_of known.now)) (number + 1)) (told_of known.now) rest.now) }
+    ensures past { OnOk result (IsPast known.now (block_begin (length (entries_of known.now)) (number + 1)) past.new) }
+{
+    let count = known.journal.entries().len();
+    let first = block_begin(count, number);
+    let end = block_begin(count, number + 1);
+    let mut block = Block::new(*line.allocator(), known, past, first as u32)?;
+    let rest = push_lines(out, line, past, &mut block, known, rest, end)?;
+    push_sketch(out, line, past, &block, known, end)?;
+    Ok(rest)
+}
+
+/// Appends all blocks.
+fn push_blocks(
+    out: &mut PackedText,
+    line: &mut Vec<u8>,
+    past: &mut Past,
     known: &Known<'_>,
 ) -> Result<(), NoMemory>
     requires known { IsKnown known.now }
     requires few { length (entries_of known.now) < 2 ^ 32 - 1 }
-    requires no_levels { AreLevels (entries_of known.now) [] levels.old }
-    requires whole_levels { IsWhole levels.old }
-    requires no_last { AreLast (entries_of known.now) [] last.old }
-    requires whole_last { moves.IsWhole last.old }
+    requires past { IsPast known.now 0 past.old }
     ensures { OnOk result (out.new.items ≡ out.old.items
-        ++ steps_text (entries_of known.now) (told_of known.now) 0 (entries_of known.now)) }
+        ++ flat_map (block_text (procs_of known.now) (entries_of known.now) (told_of known.now))
+        (range_with_len 0 (block_count (length (entries_of known.now))))) }
 {
-    let entries = known.journal.entries();
-    let mut one = Case::default();
     let mut rest: &[Told] = &known.story.told;
-    for place in 0..entries.len() {
-        let (came, later) = rest.split_at(count_of(rest, place as u32));
-        levels.note_all(entries, came)?;
-        last.note_all(entries, came)?;
-        let entry = entries.entry(place, &mut one);
-        line.clear();
-        put_line(line, known, levels, last, place as u32, &entry, came)?;
-        out.push(line)?;
-        rest = later;
+    for number in 0..block_count(known.journal.entries().len()) {
+        rest = push_block(out, line, past, known, rest, number)?;
     }
     Ok(())
 }
@@ -131,9 +138,8 @@ pub(crate) fn push_data(
     ensures { OnOk result (out.new.items ≡ out.old.items
         ++ data_text known.now.journal.now.head (entries_of known.now) (told_of known.now)) }
 {
-    let mut levels = Levels::new(alloc)?;
-    let mut last = LastMoves::new(alloc)?;
+    let mut past = Past::new(alloc, known)?;
     let mut line = Vec::new(alloc);
     push_head(out, &mut line, known.journal.head())?;
-    push_steps(out, &mut line, &mut levels, &mut last, known)
+    push_blocks(out, &mut line, &mut past, known)
 }

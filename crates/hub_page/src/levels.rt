@@ -1,10 +1,11 @@
 //! How many values each port holds, event by event.
 
-ghost use Rattle.std.specs.Prelude.{◌≡◌, ◌<◌, ◌-◌, ◌++◌, List, [], length, IfOk, IfSome, OnOk};
+ghost use Rattle.std.specs.Prelude.{◌≡◌, ◌<◌, ◌++◌, List, [], length, IfOk, IfSome, OnOk};
 ghost use Rattle.hub_base.specs.Entry.{Entry};
 ghost use Rattle.hub_story.specs.declared.told.Told.{Told};
-ghost use Rattle.hub_page.specs.Levels.{AreLevels, AreNext, IsWhole, count_at, with_one};
+ghost use Rattle.hub_page.specs.Levels.{AreLevels, AreNext, IsWhole, count_at, level_of, with_one};
 
+use crate::counts::{count_at, count_one};
 use hub_base::{Port, What};
 use hub_core::ShortEntries;
 use hub_story::Told;
@@ -15,36 +16,20 @@ use std::alloc::{AllocError, Global};
 #[derive(Drop)]
 pub(crate) struct Levels {
     /// How many values were sent on it.
-    sent: Vec<u64>,
+    pub(crate) sent: Vec<u64>,
     /// How many were received from it.
-    received: Vec<u64>,
+    pub(crate) received: Vec<u64>,
 }
 
 /// Counts one value more on the port, if there is one. A count that can't grow finds no memory.
-fn count_one(table: &mut Vec<u64>, port: Option<Port>) -> Result<(), AllocError>
+fn count_port(table: &mut Vec<u64>, port: Option<Port>) -> Result<(), AllocError>
     requires few { IfSome port (λ port. port.0 < length table.old.items) }
     ensures ok { OnOk result (table.new.items ≡ with_one table.old.items port) }
     ensures length { length table.new.items ≡ length table.old.items }
 {
-    let Some(port) = port else {
-        return Ok(());
-    };
-    let place = usize::from(port.0);
-    let count = table[place];
-    if count == u64::MAX {
-        return Err(AllocError);
-    }
-    table[place] = count + 1;
-    Ok(())
-}
-
-/// What the table counts on the port.
-fn count_at(table: &[u64], port: Port) -> u64
-    ensures { result ≡ count_at table.now port }
-{
-    match table.get(usize::from(port.0)) {
-        Some(count) => *count,
-        None => 0,
+    match port {
+        Some(port) => count_one(table, port.0.into()),
+        None => Ok(()),
     }
 }
 
@@ -72,8 +57,8 @@ impl Levels {
         let Some(case) = entries.case_at(told.asked as usize, case) else {
             return Ok(());
         };
-        count_one(&mut self.sent, sent_port(case, outcome))?;
-        count_one(&mut self.received, got_port(case, outcome))
+        count_port(&mut self.sent, sent_port(case, outcome))?;
+        count_port(&mut self.received, got_port(case, outcome))
     }
 
     /// Takes in these events, in order, behind those so far.
@@ -93,10 +78,24 @@ impl Levels {
         Ok(())
     }
 
+    /// How many values were sent on the port.
+    pub(crate) fn sent_on(&self, port: Port) -> u64
+        ensures { result ≡ count_at self.now.sent.items port }
+    {
+        count_at(&self.sent, port.0.into())
+    }
+
+    /// How many were received from it.
+    pub(crate) fn received_on(&self, port: Port) -> u64
+        ensures { result ≡ count_at self.now.received.items port }
+    {
+        count_at(&self.received, port.0.into())
+    }
+
     /// How many values the port holds.
     pub(crate) fn level(&self, port: Port) -> u64
-        ensures { result ≡ count_at self.now.sent.items port - count_at self.now.received.items port }
+        ensures { result ≡ level_of self.now port }
     {
-        count_at(&self.sent, port).saturating_sub(count_at(&self.received, port))
+        self.sent_on(port).saturating_sub(self.received_on(port))
     }
 }

@@ -1,14 +1,23 @@
 //! The page of a journal for a browser. Its data tell all that a hub does, so that the page has only to draw and to count.
 #![tactic(auto)]
 
+mod block;
+mod counts;
 mod data;
 mod ends;
 mod entries;
 mod known;
+mod lanes;
 mod levels;
+mod limits;
 mod number;
 mod page;
+mod parked_calls;
+mod past;
+mod ports;
+mod sketch;
 mod stalls;
+mod step_lines;
 mod viewer;
 
 pub use page::page_text;

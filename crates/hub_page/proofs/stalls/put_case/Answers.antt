@@ -1,6 +1,5 @@
-use Rattle.std.proofs.Common.{◌≡◌, ◌∙◌, ap, Option}
+use Rattle.std.proofs.Common.{◌≡◌, ◌∙◌, ap}
 use Rattle.hub_base.specs.Ready.{port_of}
-use Rattle.hub_story_text.specs.declared.last_moves.Mover.{Mover}
 use Rattle.hub_story_text.specs.LastMoves.{last_sender, last_receiver}
 use Rattle.hub_page.specs.Known.{entries_of}
 use Rattle.hub_page.specs.Stalls.{until}

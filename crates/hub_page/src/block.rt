@@ -1,0 +1,82 @@
+//! What is counted of the steps of a block.
+
+ghost use Rattle.std.specs.Prelude.{◌≡◌, IfOk, OnOk};
+ghost use Rattle.hub_page.specs.Block.{IsBlock, IsNext, IsWhole};
+ghost use Rattle.hub_page.specs.Known.{entries_of, procs_of, told_of};
+ghost use Rattle.hub_page.specs.Past.{IsPast};
+
+use crate::counts::count_one;
+use crate::known::Known;
+use crate::lanes::{count_troubles, count_waits, lane_of};
+use crate::past::Past;
+use crate::ports::note_held;
+use hub_base::{MOST_PORTS, Pid};
+use hub_core::ShortEntries;
+use hub_story::Told;
+use std::alloc::{AllocError, Global};
+
+/// Tables of lanes and of ports, by their numbers.
+#[derive(Drop)]
+pub(crate) struct Block {
+    /// The place of the block's first step.
+    pub(crate) first: u32,
+    /// How many steps each lane asked.
+    pub(crate) asked: Vec<u64>,
+    /// How many of its steps were told to be stalled, a fault, or closed.
+    pub(crate) troubles: Vec<u64>,
+    /// Behind how many steps a call of it waited.
+    pub(crate) waited: Vec<u64>,
+    /// The most values that each port held behind a step by which one moved.
+    pub(crate) most: Vec<u64>,
+    /// How many values were sent on it before the block.
+    pub(crate) sent: Vec<u64>,
+    /// How many were received from it before the block.
+    pub(crate) received: Vec<u64>,
+}
+
+impl Block {
+    /// A block that has no step yet.
+    pub(crate) fn new(
+        alloc: Global,
+        known: &Known<'_>,
+        past: &Past,
+        first: u32,
+    ) -> Result<Block, AllocError>
+        requires { IsPast known.now first past.now }
+        ensures first { IfOk result (λ block. block.first ≡ first) }
+        ensures begun { IfOk result (IsBlock (entries_of known.now) (told_of known.now) (procs_of known.now) first) }
+        ensures whole { IfOk result (IsWhole (procs_of known.now)) }
+    {
+        let lanes = usize::from(known.journal.head().procs) + 1;
+        let ports = MOST_PORTS + 1;
+        Ok(Block {
+            first,
+            asked: vec![in alloc; 0; lanes]?,
+            troubles: vec![in alloc; 0; lanes]?,
+            waited: vec![in alloc; 0; lanes]?,
+            most: vec![in alloc; 0; ports]?,
+            sent: Vec::from_slice(alloc, &past.levels.sent[..ports])?,
+            received: Vec::from_slice(alloc, &past.levels.received[..ports])?,
+        })
+    }
+
+    /// Counts one step more, of this process, by which these came, by what is known behind it.
+    pub(crate) fn note_step(
+        &mut self,
+        entries: &ShortEntries,
+        procs: u8,
+        pid: Pid,
+        came: &[Told],
+        past: &Past,
+    ) -> Result<(), AllocError>
+        requires { IsWhole procs self.old }
+        ensures next { OnOk result (IsNext entries.now procs pid came.now past.now self.old self.new) }
+        ensures whole { IsWhole procs self.new }
+    {
+        count_one(&mut self.asked, lane_of(procs, pid))?;
+        count_troubles(&mut self.troubles, procs, came)?;
+        count_waits(&mut self.waited, procs, &past.parked)?;
+        note_held(&mut self.most, &past.levels, entries, came);
+        Ok(())
+    }
+}

@@ -45,11 +45,12 @@ class Port:
 
 
 class Sketch:
-    """What the steps of a block have in common, so far."""
+    """What the steps of a block have in common, so far, and the most that each port held in it."""
 
-    def __init__(self, first):
+    def __init__(self, first, ports):
         self.first = first
-        self.waited, self.asked, self.most = collections.Counter(), collections.Counter(), {}
+        self.waited, self.asked = collections.Counter(), collections.Counter()
+        self.most = {number: port.count for number, port in enumerate(ports, 1)}
 
     def add_wait(self, lane, since, until):
         self.waited[lane] += until - max(since, self.first)
@@ -64,7 +65,7 @@ class Overview:
         self.procs = int(procs.split()[1])
         self.hub = model.Hub(int(head.split()[2]), self.procs)
         self.ports, self.waiting = [], {}  # the calls that wait, by process
-        self.sketch, self.sketches, self.stalls = Sketch(0), [], []
+        self.sketch, self.sketches, self.stalls = Sketch(0, ()), [], []
         self.count, self.longest = 0, []  # a heap
         self.asked, self.waited = collections.Counter(), collections.Counter()
         for line in lines:
@@ -90,9 +91,9 @@ class Overview:
             else:
                 moved |= self.finish(asked, words)
         for port in moved:
-            self.ports[port - 1].most = max(self.ports[port - 1].most, self.ports[port - 1].count)
-            before = self.sketch.most.get(port, 0)
-            self.sketch.most[port] = max(before, self.ports[port - 1].count)
+            count = self.ports[port - 1].count
+            self.ports[port - 1].most = max(self.ports[port - 1].most, count)
+            self.sketch.most[port] = max(self.sketch.most.get(port, 0), count)
         self.asked[self.lane(step)] += 1
         self.sketch.asked[self.lane(step)] += 1
         self.count += 1
@@ -123,9 +124,8 @@ class Overview:
     def end_block(self):
         for step in self.waiting.values():
             self.sketch.add_wait(step.pid, step.place, self.count)
-        held = {number: max(self.sketch.most.get(number, 0), port.count) for number, port in enumerate(self.ports, 1) if port.room}
-        self.sketches.append((self.sketch, held))
-        self.sketch = Sketch(self.count)
+        self.sketches.append(self.sketch)
+        self.sketch = Sketch(self.count, self.ports)
 
 
 def columns(data):
@@ -136,18 +136,18 @@ def columns(data):
 
 def edges(data):
     """The places between columns."""
-    return [sketches[0][0].first for sketches in columns(data)] + [data.count]
+    return [sketches[0].first for sketches in columns(data)] + [data.count]
 
 
 def shares(data, name, lane):
     """In what share of each column's steps a process waited or asked."""
-    sums = (sum(getattr(sketch, name)[lane] for sketch, _ in sketches) for sketches in columns(data))
+    sums = (sum(getattr(sketch, name)[lane] for sketch in sketches) for sketches in columns(data))
     return [count / (end - first) for count, first, end in zip(sums, edges(data), edges(data)[1:])]
 
 
 def levels(data, port):
     """How full a port was at most in each column."""
-    return [max(held.get(port, 0) for _, held in sketches) / data.ports[port - 1].room for sketches in columns(data)]
+    return [max(sketch.most.get(port, 0) for sketch in sketches) / data.ports[port - 1].room for sketches in columns(data)]
 
 
 def x_of(data, place):

@@ -20,6 +20,7 @@ BETWEEN = ["story.html"]
 SCRIPTS = ["data.js", "view.js", "paint.js", "panel.js", "main.js"]
 AFTER = ["scripts.html", *SCRIPTS, "end.html"]
 LETTERS = {"make": "m", "send": "s", "recv": "r", "select": "?", "close": "c", "cancel": "x", "exit": "e"}
+BLOCK = 64  # steps
 ENDS = {"sent": "s", "got": "g", "drained": "d", "closed": "c", "default": "D", "done": "k", "stalled": "S", "cancelled": "x"}
 
 
@@ -47,23 +48,67 @@ class Move:
         self.words, self.port, self.sender = words, port, sender
 
 
+def told(letter, number):
+    return f"{letter}{number}" if number else ""
+
+
+class Sketch:
+    """What the steps of a block have in common, so far; by lane how long processes waited, and by port how values moved."""
+
+    def __init__(self, first):
+        self.first = first
+        self.waited, self.asked, self.troubles = (collections.Counter() for _ in range(3))
+        self.most, self.sent, self.got = (collections.Counter() for _ in range(3))
+
+    def wait(self, lane, since, until):
+        self.waited[lane] += until - max(since, self.first)
+
+    def text(self, end, lanes, since):
+        """The line; since when processes wait behind the block is told."""
+        text = "~"
+        for lane in range(lanes):
+            numbers = self.waited[lane], self.asked[lane], self.troubles[lane], end - since.get(lane, end)
+            text += f"P{lane}" + "".join(map(told, "wato", numbers)) if any(numbers) else ""
+        for port in sorted({*self.sent, *self.got}):
+            text += f"p{port}" + "".join(map(told, "msg", (self.most[port], self.sent[port], self.got[port])))
+        return text + "\n"
+
+
 class Data:
     """Writes the data of a journal, line by line."""
 
     def __init__(self, lines, write):
         lines = iter(lines)
         head, procs = next(lines).rstrip("\n"), next(lines).rstrip("\n")
-        self.hub = model.Hub(int(head.split()[2]), int(procs.split()[1]))
+        self.procs = int(procs.split()[1])
+        self.hub = model.Hub(int(head.split()[2]), self.procs)
         self.ports, self.waiting = collections.defaultdict(Port), {}  # by process, in the order of arrival
+        self.sketch, end = Sketch(0), 0
         write(f"{head}\n{procs}\n")
-        for place, line in enumerate(lines):
-            write(self.line(place, line.rstrip("\n")))
+        for end, line in enumerate(lines, 1):
+            write(self.line(end - 1, line.rstrip("\n")))
+            if end % BLOCK == 0:
+                write(self.end_block(end))
+        if end % BLOCK:
+            write(self.end_block(end))
+
+    def lane(self, step):
+        """One stands for all processes that there are not."""
+        return min(step.pid, self.procs)
+
+    def end_block(self, end):
+        for step in self.waiting.values():
+            self.sketch.wait(step.pid, step.place, end)
+        text = self.sketch.text(end, self.procs + 1, {step.pid: step.place for step in self.waiting.values()})
+        self.sketch = Sketch(end)
+        return text
 
     def line(self, place, line):
         pid, word, *more = line.split(" ")
         entry = pid + LETTERS[word] + (":" if word == "send" else "").join("!" if part == "default" else part for part in more)
         word, asked = model.step([word, *more])
         own = Step(place, int(pid), asked[0] if word == "call" else ())
+        self.sketch.asked[self.lane(own)] += 1
         self.hub.step(own.pid, word, asked)
         events, self.hub.events = self.hub.events, []
         items, stalled = [], []
@@ -74,8 +119,12 @@ class Data:
                 self.waiting[own.pid] = own
             else:
                 items.append(self.end(place, step, words))
+                self.sketch.wait(self.lane(step), step.place, place)
+                self.sketch.troubles[self.lane(step)] += words[0] in ("stalled", "fault") or words[-1] == "closed"
             if words == ["stalled"]:
                 stalled.append(step)
+        for number in {item.port for item in items if isinstance(item, Move)}:
+            self.sketch.most[number] = max(self.sketch.most[number], self.ports[number].count)
         return entry + "".join(self.text(place, item) for item in items) + "".join(self.stalls(place, stalled)) + "\n"
 
     def end(self, place, step, words):
@@ -96,12 +145,14 @@ class Data:
         item = Move(text, case[1], None)
         if case[0] == "s":
             port.count, port.sender = port.count + 1, step
+            self.sketch.sent[case[1]] += 1
             if port.not_sent:
                 port.not_sent.popleft().sender = step.place
             else:
                 port.not_received.append(step.place)
         else:
             port.count, port.receiver = port.count - 1, step
+            self.sketch.got[case[1]] += 1
             if port.not_received:
                 item.sender = port.not_received.popleft()
             else:

@@ -4,13 +4,13 @@ with which the bytes of TOOL's are compared. What a page has to show is worked o
 tells of it, by picture.py, and not by the page or its data. The shapes of N random journals (50) at three zooms are compared with that:
 each box stands in the column of its step on the axis and in the row of its process's name, and so on for bars, arrows, levels, stalls
 and guesses: all expected shapes, and no others. Those of longer journals are drawn on a canvas, and are taken from the calls to it.
-What the page counts is counted again. Search, following, links, mouse and keys are tried; the contrasts of all colours are computed on
-light and on dark; bytes that HTML would take for its own are shown; no error may stand in the console; the data of journals of benches/
-have at most 60 bytes a step; and a page of a million steps has to open, and be drawn at any zoom, in little time of the processor.
-Status 77 without Chromium. The last line counts.
+The sketches in the data, and what the page sums up by them, are counted again. Search, following, links, mouse and keys are tried; the
+contrasts of all colours are computed on light and on dark; bytes that HTML would take for its own are shown; no error may stand in the
+console; the data of journals of benches/ have at most 60 bytes a step; and a page of a million steps has to open, and be drawn at any
+zoom, in little time of the processor. Status 77 without Chromium. The last line counts.
 
-page_test.py TOOL --long [FOLDER] has TOOL make the pages of the four journals of benches/, a million steps each, in FOLDER or a
-temporary one, and prints how long they took to open and to move, and their bytes a step.
+page_test.py [TOOL] --long [FOLDER] makes the pages of the four journals of benches/, a million steps each, in FOLDER or a temporary
+one, and prints how long they took to open and to move, and their bytes a step. Without TOOL that takes minutes.
 """
 import collections
 import fcntl
@@ -35,7 +35,7 @@ from random_journal import Journal as RandomJournal
 
 ROOT = pathlib.Path(__file__).resolve().parent.parent
 RANDOM = 50
-BLOCK = 64  # steps
+BLOCK, NEVER = 64, 0xffffffff  # steps; no step
 MOST_BYTES = 60
 VIEWER_LINES, VIEWER_WIDTH = 600, 160
 # a million steps: seconds of the processor until they are open, and for a view of them
@@ -91,8 +91,9 @@ class Browser:
         os.close(theirs_out)
         target = self.ask("Target.createTarget", url="about:blank")["targetId"]
         self.session = self.ask("Target.attachToTarget", targetId=target, flatten=True)["sessionId"]
-        for domain in "Page", "Runtime", "Log", "Performance":
+        for domain in "Page", "Runtime", "Log":
             self.ask(domain + ".enable")
+        self.ask("Performance.enable", timeDomain="threadTicks")
         self.ask("Emulation.setDeviceMetricsOverride", width=WIDTH, height=HEIGHT, deviceScaleFactor=1, mobile=False)
 
     def read(self):
@@ -437,6 +438,7 @@ def check_random(browser, count, work, seed):
 
         count.run(f"random journal {seed}, {steps} steps from {first + 1} on", test)
     count.run(f"strip of random journal {seed}", lambda: check_waiting(browser, journal))
+    count.run(f"sketches of random journal {seed}", lambda: check_sketches(text, journal))
     count.run(f"data of random journal {seed}", lambda: check_data(browser, journal))
     count.run(f"search in random journal {seed}", lambda: check_search(browser, journal))
 
@@ -455,6 +457,7 @@ def check_long(browser, count, work, seed, total):
             (check_shapes if steps <= 500 else check_canvas)(drawn, journal, *at)
 
         count.run(f"long journal {seed}, {steps} steps from {first + 1} on", test)
+    count.run(f"sketches of long journal {seed}", lambda: check_sketches(text, journal))
     count.run(f"data of long journal {seed}", lambda: check_data(browser, journal))
     count.run(f"overview of long journal {seed}", lambda: check_overview(text, journal))
     count.run(f"search in long journal {seed}", lambda: check_search(browser, journal))
@@ -473,6 +476,10 @@ WRONG = {
     "a stall is not told": (r";0S(?=;)", ";0x"),
     "a guess is not told": (r";\d>\d", ""),
     "a step is another process's": (r"(?m)^1(?=r)", "0"),
+    "a call waits behind a block since another step": (r"(?<=o)(\d+)", lambda found: str(int(found[1]) + 1)),
+    "a call does not wait behind a block": (r"o\d+", ""),
+    "a value was sent less in a block": (r"(?<=s)(\d+)(?=g)", lambda found: str(int(found[1]) - 1)),
+    "a value was received more in a block": (r"(?<=\dg)(\d+)(?=p|\n)", lambda found: str(int(found[1]) + 1)),
 }
 WORKERS = "chanhub journal 2\nprocs 4\n0 make 2\n0 make 0\n0 make 0\n3 recv 3\n" + "".join(
     f"0 send 1 {n}\n1 recv 1\n1 send 2 {n}\n0 send 1 {n + 1}\n2 recv 2\n1 recv 1\n2 recv 2\n1 send 2 {n + 1}\n" for n in range(100, 130)) + "2 recv 1\n1 recv 1\n0 send 3 7\n3 recv 1\n0 recv 2\n"
@@ -488,7 +495,7 @@ def check_notices(browser, count, work):
         path.write_text(text[:begin] + data + text[end:])
         browser.open(path)
         try:
-            for first in 0, 40, 170, len(journal.lines) - 60:
+            for first in 0, 40, 2 * BLOCK, 170, len(journal.lines) - 60:
                 drawn, at = drawn_at(browser, journal, first, 60)
                 check_shapes(drawn, journal, *at)
         except AssertionError:
@@ -516,46 +523,95 @@ def some(rows):
     return rows[:: len(rows) // 40 + 1] + rows[-1:]
 
 
+def is_trouble(end):
+    return end == "stalled" or end.startswith("fault") or end.endswith(" closed")
+
+
+def lane_of(journal, one):
+    return min(int(one.line.split()[0]), journal.procs)
+
+
+def blocks_of(count):
+    return [(first, min(count, first + BLOCK)) for first in range(0, count, BLOCK)]
+
+
+def counted(letters, numbers):
+    return "".join(f"{letter}{number}" for letter, number in zip(letters, numbers) if number)
+
+
+def sketch_of(journal, asked, first, until):
+    """The sketch of these steps, counted step by step."""
+    lanes = [[0] * 4 for _ in range(journal.procs + 1)]
+    for one in asked:
+        by, own = one.ended.by if one.ended else len(asked), lanes[lane_of(journal, one)]
+        own[0] += max(0, min(by, until) - max(one.place, first))
+        own[1] += first <= one.place < until
+        own[2] += first <= by < until and is_trouble(words_of(one))
+        own[3] += until - one.place if one.place < until <= by and one.place < by else 0
+    text = "~" + "".join(f"P{lane}" + counted("wato", own) for lane, own in enumerate(lanes) if any(own))
+    for port in sorted({*journal.moved["s"], *journal.moved["r"]}):
+        sent, received = ([by for _, by, _ in journal.moved[side][port]] for side in "sr")
+        steps = {by for by in [*sent, *received] if first <= by < until}
+        held = [sum(by <= step for by in sent) - sum(by <= step for by in received) for step in steps]
+        numbers = [max(held, default=0), *(sum(first <= by < until for by in way) for way in (sent, received))]
+        text += f"p{port}" + counted("msg", numbers) if steps else ""
+    return text
+
+
+def most_held(journal, port, first, until):
+    """The most that a port held after one of these steps, or before them."""
+    return max((level.count for level in journal.levels() if level.port == port and level.first < until and (level.until is None or level.until >= first)), default=0)
+
+
+def check_sketches(text, journal):
+    asked = journal.asked()
+    told, blocks = [line for line in data_of(text).splitlines() if line.startswith("~")], blocks_of(len(asked))
+    assert len(told) == len(blocks), f"so many sketches: {len(told)}"
+    for line, (first, until) in zip(told, blocks):
+        wanted = sketch_of(journal, asked, first, until)
+        assert line == wanted, f"{line} and not {wanted}"
+
+
 def check_data(browser, journal):
-    """What the page counts: by blocks, and of the whole."""
+    """What the page sums up: before each block, and of the whole."""
     asked, count = journal.asked(), len(journal.lines)
-    told = browser.value("(({ waited, asked, troubles, most, level, rooms, exits, stalls, waits }) => "
-                         "({ waited: [...waited], asked: [...asked], troubles: [...troubles], most: [...most], level: [...level], rooms, exits, stalls, waits }))(page.journal)")
-    size = browser.value("page.journal.size")
-    lanes, blocks = journal.procs + 1, range(0, count + size, size)
-    pid_of = lambda one: min(int(one.line.split()[0]), journal.procs)
-    is_trouble = lambda end: end == "stalled" or end.startswith("fault") or end.endswith(" closed")
-    for at, until in some(list(enumerate(min(first, count) for first in blocks))):
-        wanted = {name: [0] * lanes for name in ("waited", "asked", "troubles")}
+    tables, whole = ["waited", "asked", "troubles", "open", "sent", "got", "most"], ["rooms", "exits", "stalls", "waits", "asks"]
+    told = browser.value("Object.fromEntries(%s.map((name) => [name, [...page.journal[name]]]))" % json.dumps([*tables, *whole]))
+    lanes, width = journal.procs + 1, 1 + sum(words_of(one).startswith("made") for one in asked)
+    for at, until in some(list(enumerate([0, *(until for _, until in blocks_of(count))]))):
+        wanted = {name: [0] * lanes for name in tables[:3]} | {"open": [NEVER] * lanes}
         for one in asked:
-            by = one.ended.by if one.ended else count
-            wanted["asked"][pid_of(one)] += one.place < until
-            wanted["waited"][pid_of(one)] += max(0, min(by, until) - one.place)
-            wanted["troubles"][pid_of(one)] += by < until and is_trouble(words_of(one))
+            by, lane = one.ended.by if one.ended else count, lane_of(journal, one)
+            wanted["asked"][lane] += one.place < until
+            wanted["waited"][lane] += max(0, min(by, until) - one.place)
+            wanted["troubles"][lane] += by < until and is_trouble(words_of(one))
+            if one.place < until <= by and one.place < by:
+                wanted["open"][lane] = one.place
+        for name, side in (("sent", "s"), ("got", "r")):
+            wanted[name] = [sum(by < until for _, by, _ in journal.moved[side][port]) for port in range(width)]
         for name, counts in wanted.items():
-            assert told[name][at * lanes : (at + 1) * lanes] == counts, f"{name} before step {until + 1}: {counts}"
-    made = sum(words_of(one).startswith("made") for one in asked)
+            assert told[name][at * len(counts) : (at + 1) * len(counts)] == counts, f"{name} before step {until + 1}: {counts}"
     held_in = {level.port for level in journal.levels()}
     for port in held_in:
-        for at, first in some(list(enumerate(range(0, count, size)))):
-            held = [level.count for level in journal.levels() if level.port == port and level.first < first + size and (level.until is None or level.until >= first)]
-            most = max(held, default=0)
-            assert told["most"][at * (made + 1) + port] == most, f"port {port} from step {first + 1} on: {most}"
-    assert told["rooms"] == [journal.room[port] if port in held_in else 0 for port in range(1, made + 1)], told["rooms"]
+        for at, (first, until) in some(list(enumerate(blocks_of(count)))):
+            most = most_held(journal, port, first, until)
+            assert told["most"][(at + 1) * width + port] == most, f"port {port} from step {first + 1} on: {most}"
+    assert told["rooms"] == [journal.room[port] if port in held_in else 0 for port in range(1, width)], told["rooms"]
     assert told["exits"][: journal.procs] == [journal.exited.get(pid) for pid in range(journal.procs)], told["exits"]
     assert told["stalls"] == sorted({by for by, _, _ in journal.stalls}), told["stalls"]
-    waits = collections.Counter()
+    waits, asks = collections.Counter(), collections.Counter(lane_of(journal, one) for one in asked)
     for one in asked:
-        waits[pid_of(one)] += (one.ended.by if one.ended else count - 1) - one.place
-    assert told["waits"][: journal.procs] == [waits[pid] for pid in range(journal.procs)], told["waits"]
+        waits[lane_of(journal, one)] += (one.ended.by if one.ended else count - 1) - one.place
+    shown = range(lanes if asks[journal.procs] else journal.procs)
+    assert told["waits"] == [waits[lane] for lane in shown], told["waits"]
+    assert told["asks"] == [asks[lane] for lane in shown], told["asks"]
 
 
 def check_overview(text, journal):
     """The bars of tools/overview.py, counted step by step."""
     data, asked = overview.Overview(text.splitlines()), journal.asked()
     drawn = "\n".join(overview.drawing(data))
-    blocks = [(first, min(len(asked), first + BLOCK)) for first in range(0, len(asked), BLOCK)]
-    x = lambda place: overview.LEFT + overview.WIDTH * place / len(asked)
+    blocks, x = blocks_of(len(asked)), lambda place: overview.LEFT + overview.WIDTH * place / len(asked)
     for kind, count in ("waited", lambda one, first, until: max(0, min(one.ended.by if one.ended else len(asked), until) - max(one.place, first))), (
             "asked", lambda one, first, until: first <= one.place < until):
         paths = re.findall(f'<path class="{kind}" d="([^"]*)">', drawn)
@@ -565,6 +621,13 @@ def check_overview(text, journal):
             shares = [(first, until, sum(count(one, first, until) for one in own) / (until - first)) for first, until in blocks]
             wanted = [(x(first), floor - share * (overview.LANE - 4), x(until)) for first, until, share in shares if share]
             agree(f"{kind} bar of P{pid}", [tuple(map(float, bar)) for bar in re.findall(r"M([\d.]+),\d+V([\d.]+)H([\d.]+)V", path)], wanted, 0.06)
+    ports = sorted({level.port for level in journal.levels()})
+    paths = re.findall('<path class="held" d="([^"]*)">', drawn)
+    assert len(paths) == len(ports), f"{len(paths)} ports"
+    for row, (port, path) in enumerate(zip(ports, paths), 1):
+        floor, shares = overview.TOP + journal.procs * overview.LANE + row * overview.STRIP, [most_held(journal, port, *block) / journal.room[port] for block in blocks]
+        wanted = [(x(first), floor - share * (overview.STRIP - 8), x(until)) for (first, until), share in zip(blocks, shares) if share]
+        agree(f"bar of port {port}", [tuple(map(float, bar)) for bar in re.findall(r"M([\d.]+),\d+V([\d.]+)H([\d.]+)V", path)], wanted, 0.06)
     stalls = [float(at) for at in re.findall(r'class="stall" d="M([\d.]+),', drawn)]
     agree("stall", [(at,) for at in stalls], [(x(by),) for by in sorted({by for by, _, _ in journal.stalls})], 0.06)
 
@@ -844,13 +907,23 @@ def check_contrasts(browser, count, path):
     count.test("the other light is another one", papers == ["rgb(255, 255, 255)", "rgb(22, 24, 28)"], papers)
 
 
+EXCHANGES = "0s1:7\n1r1;0g0@1;1:0;1s0;1:0\n"  # process 1 receives what process 0 has sent, who waits for that
+
+
+def million_data(steps):
+    """So many steps, a multiple of those of a block."""
+    half = BLOCK // 2
+    first = "0m0;0m1\n0m4;0m2\n" + EXCHANGES * (half - 1) + f"~P0w{half - 1}a{half + 1}P1a{half - 1}p1s{half - 1}g{half - 1}\n"
+    return "chanhub journal 1\nprocs 2\n" + first + (EXCHANGES * half + f"~P0w{half}a{half}P1a{half}p1s{half}g{half}\n") * (steps // BLOCK - 1)
+
+
 def million(steps):
-    """A page of so many steps, written here: process 1 receives what process 0 has sent, who waits for that."""
-    data = "chanhub journal 1\nprocs 2\n0 make 0;0m1\n0 make 4;0m2\n" + "0 send 1 7\n1 recv 1;0g0@1;1:0;1s0;1:0\n" * (steps // 2 - 1)
-    return page.joined(page.BEFORE) + data + page.joined(page.BETWEEN) + "\n" + page.joined(page.AFTER)
+    return page.joined(page.BEFORE) + million_data(steps) + page.joined(page.BETWEEN) + "\n" + page.joined(page.AFTER)
 
 
 def check_million(browser, count, work):
+    few = "chanhub journal 1\nprocs 2\n0 make 0\n0 make 4\n" + "0 send 1 7\n1 recv 1\n" * (3 * BLOCK // 2 - 1)
+    count.test("the data of a million steps are made as those of a few are", million_data(3 * BLOCK) == data_of(few))
     path = work / "million.html"
     path.write_text(million(MILLION))
     browser.open(path)
@@ -890,8 +963,14 @@ def check_stall_marks(browser, count, work):
     open_page(browser, WORKERS, work / "workers.html")
     browser.value("window.drawn = []; page.layOut()")
     calls = [Call(*call) for call in browser.value("window.drawn") if call[0] == "strip" and call[1] == "fillRect" and call[2][1] == 16]
-    wanted = [(float(by * WIDTH // len(journal.lines)),) for by in sorted({by for by, _, _ in journal.stalls})]
-    count.test("the strip marks stalls", close([call.words[0] for call in calls], [at for at, in wanted]), (calls, wanted))
+    stalls = collections.defaultdict(list)
+    for by, pid, _ in journal.stalls:
+        stalls[by].append(f"P{pid}")
+    wanted = [float(by * WIDTH // len(journal.lines)) for by in stalls]
+    count.test("the strip marks stalls", close([call.words[0] for call in calls], wanted), (calls, wanted))
+    told = browser.value("[...document.querySelectorAll('#whole li')].map((one) => one.textContent)")
+    wanted = [f"step {by + 1} stalls {', '.join(pids)}" for by, pids in stalls.items()]
+    count.test("the panel tells whom they stall", told == wanted, (told, wanted))
 
 
 def check_viewer(count):
@@ -924,7 +1003,11 @@ def measure(folder):
     subprocess.run([sys.executable, str(ROOT / "benches" / "make_journals.py"), folder], check=True, stdout=subprocess.DEVNULL)
     for name in "hand_overs", "bursts", "selects", "bytes":
         path = pathlib.Path(folder) / f"{name}.html"
-        subprocess.run([*TOOLS, "page", pathlib.Path(folder) / name, "-o", path], check=True)
+        with open(pathlib.Path(folder) / name) as journal, open(path, "w") as made:
+            if TOOLS:
+                subprocess.run([*TOOLS, "page"], stdin=journal, stdout=made, check=True)
+            else:
+                page.write_page(journal, made.write)
         with tempfile.TemporaryDirectory() as user:
             browser = Browser(user)
             browser.open(path)

@@ -1,40 +1,23 @@
-// Reads the data of the page, which README.md defines. Steps are counted from 0 here, and from 1 in what is shown.
-const MOST_READ = 20000, NEVER = 0xffffffff, STILL_WAITS = { by: Infinity, letter: "", number: 0 };
+// Reads the data of the page, which README.md defines: the sketches when it opens, and the steps of a block when they are needed. Steps
+// are counted from 0 here, and from 1 in what is shown.
+const BLOCK = 64, MOST_READ = 300, NEVER = 0xffffffff, STILL_WAITS = { by: Infinity, letter: "", number: 0 };
 const WORDS = { m: "make", s: "send", r: "recv", "?": "select", c: "close", x: "cancel", e: "exit" };
 const ENDS = { s: "sent", g: "got", d: "drained", c: "closed", D: "default", k: "done", S: "stalled", x: "cancelled", m: "made", f: "fault" };
-const ENDED = Object.keys(ENDS), numbers = (first, end) => Array.from({ length: Math.max(0, end - first) }, (_, at) => first + at);
-// Goes through lines letter by letter, since there may be many, and tells of each step and of each item of its line.
-function readLines(text, at, first, end, told) {
-    const number = () => {
-        let value = 0;
-        for (let digit; (digit = text.charCodeAt(at) - 48) >= 0 && digit <= 9; at++) value = value * 10 + digit;
-        return value;
-    };
-    const readItem = (place) => {
-        const one = number(), sign = text[at++], two = number(), three = text[at] === "@" || text[at] === "," ? (at++, number()) : 0;
-        if (sign === ":") told.hold?.(place, one, two);
-        else if (sign === "L") told.last?.(one, ...[two, three].map((back) => (back ? place - back : null)));
-        else if (sign === ">") told.guess?.(one, two);
-        else told.end?.(place, place - one, sign, two, place - three);
-    };
-    for (let place = first; place < end; place++) {
-        const begin = at;
-        while (text[at] !== ";" && text[at] !== "\n") at++;
-        told.step?.(place, begin, at);
-        while (text[at++] === ";") readItem(place);
-    }
-}
+const TABLES = { w: "waited", a: "asked", t: "troubles", o: "open", s: "sent", g: "got", m: "most" };  // by letters of sketches
+const numbers = (first, end) => Array.from({ length: Math.max(0, end - first) }, (_, at) => first + at);
 class Step {
-    constructor(journal, place) {
-        const [, pid, letter, more] = /^(\d+)(.)(.*)$/.exec(journal.text.slice(journal.begin[place], journal.behind[place]));
+    constructor(journal, place, entry) {
+        const [, pid, letter, more] = /(\d+)(.)(.*)/.exec(entry);
         Object.assign(this, { journal, place, pid: Number(pid), letter, more });
     }
-    // By which step it ended and how: a letter of ENDS, and the number of the case, of the port made or of the fault.
-    get end() { return this.known ??= this.journal.endOf(this.place); }
+    // By which step it ended and how: a letter of ENDS, the number of the case, of the port made or of the fault, and who sent what it got.
+    get end() { return this.known ??= this.journal.endOf(this); }
     endsBy(letters) { return this.end.letter !== "" && letters.includes(this.end.letter); }
     get isTrouble() { return this.endsBy("Sfc"); }
     get waits() { return this.end.by > this.place; }
     get waited() { return counted(Math.min(this.end.by, this.journal.steps - 1) - this.place, "step"); }
+    // In what share of these steps it waited.
+    share(first, end) { return Math.max(0, Math.min(this.end.by, end) - Math.max(this.place, first)) / (end - first); }
     // Those of processes that there are not stand in a lane below all others.
     get lane() { return Math.min(this.pid, this.journal.procs); }
     // The cases as a select spells them.
@@ -47,9 +30,9 @@ class Step {
         return { side: cases[at]?.[0] ?? "", port: Number(port), value };
     }
     // The steps at both ends of the way of its value, and the value as the journal spells it.
-    get partner() { return this.journal.step(this.journal.partner[this.place]); }
-    get sender() { return this.endsBy("s") ? this : this.endsBy("g") ? this.partner : null; }
-    get receiver() { return this.endsBy("g") ? this : this.endsBy("s") ? this.partner : null; }
+    get sender() { return this.endsBy("s") ? this : this.endsBy("g") ? this.journal.step(this.end.sender) : null; }
+    get receiver() { return this.endsBy("g") ? this : this.endsBy("s") ? this.journal.receiverOf(this) : null; }
+    get partner() { return this.endsBy("g") ? this.sender : this.receiver; }
     get value() { return this.sender?.shown.value ?? null; }
     get line() {
         if (this.letter !== "?") return [this.pid, WORDS[this.letter], ...this.more.split(":")].join(" ").trim();
@@ -71,108 +54,121 @@ class Step {
         return this.shown.side ? this.shown.side + this.shown.port : { "?": "?", e: "exit" }[this.letter] ?? this.letter + this.more;
     }
 }
+// What the lines of a block tell: its steps; the ends to which steps came by them; the receivers of values, by senders; who sent on each
+// port, in order; what ports then held; and stalls.
+class Block {
+    constructor(journal, at) {
+        Object.assign(this, { steps: [], ends: new Map(), receivers: new Map(), senders: {}, levels: [], stalls: {}, sender: null });
+        for (const line of journal.text.slice(...journal.bounds[at]).split("\n")) {
+            const [entry, ...items] = line.split(";"), place = at * BLOCK + this.steps.length;
+            this.steps.push(new Step(journal, place, entry));
+            for (const item of items) this.readItem(place, .../(\d+)(.)(\d*).?(\d*)/.exec(item).slice(1));
+        }
+    }
+    readItem(place, one, sign, two, three) {
+        if (sign === ":") this.hold(place, Number(one), Number(two));
+        else if (sign === ">") this.stall(place).guesses[[one, two]] = [Number(one), Number(two)];
+        else if (sign !== "L") this.end(place, place - one, sign, Number(two), place - three);
+        else if (one > 0) this.stall(place).last[one] = [one, ...[two, three].map((back) => (back ? place - back : null))];
+    }
+    end(by, call, letter, number, sender) {
+        this.ends.set(call, { by, letter, number, sender });
+        this.sender = letter === "s" ? call : null;
+        if (letter === "g") this.receivers.set(sender, call);
+        if (letter === "S") this.stall(by).calls.push(call);
+    }
+    hold(from, port, count) {
+        this.levels.push({ port, from, count });
+        if (this.sender !== null) (this.senders[port] ??= []).push(this.sender);
+    }
+    stall(place) { return this.stalls[place] ??= { place, calls: [], last: {}, guesses: {} }; }
+}
 class Journal {
     constructor(text) {
-        const steps = (text.match(/\n/g) ?? []).length - 2, procs = Number(/procs (\d+)/.exec(text)[1]), ports = (text.match(/;0m/g) ?? []).length;
-        // So many steps are counted together, in a block.
-        const size = steps > MOST_SHAPES ? 64 : 1, blocks = Math.ceil(steps / size), lanes = procs + 1, width = ports + 1;
-        Object.assign(this, { text, steps, procs, ports, size, blocks, lanes, width });
-        const tables = (size, names) => names.forEach((name) => (this[name] = new Uint32Array(size)));
-        // By step: where its line stands in the text; by which step it ended and how; and the other end of its value's way.
-        tables(steps, ["begin", "behind", "by", "letter", "number", "partner"]);
-        // By block and lane: for how many steps the process waited, asked and had trouble before; and the call that waits when it begins.
-        tables((blocks + 1) * lanes, ["waited", "asked", "troubles", "open"]);
-        // By block and port: how much it holds at most, and before.
-        tables((blocks + 1) * width, ["most", "level"]);
-        for (const name of ["by", "partner", "open"]) this[name].fill(NEVER);
-        // The steps that stalled calls; of each port its room, or 0 if it never held a value; of each process where it exited; and steps.
-        Object.assign(this, { stalls: [], rooms: Array(ports).fill(0), exits: Array(lanes).fill(null), read: new Map() });
-        const counter = new Counter(this);
-        readLines(text, text.indexOf("\n", text.indexOf("\n") + 1) + 1, 0, steps, counter);
-        if (steps) counter.endBlock();
-        // For how many steps the calls of each process waited; a lane more stands for all processes that there are not, if any asked.
-        const last = blocks * lanes, shown = this.asked[last + procs] ? lanes : procs;
-        this.waits = numbers(0, shown).map((lane) => this.waited[last + lane] - (this.open[last + lane] !== NEVER));
+        const procs = Number(/procs (\d+)/.exec(text)[1]), lanes = procs + 1, bounds = [], next = (at) => text.indexOf("\n", at) + 1;
+        for (let at = next(next(0)), sketch; (sketch = text.indexOf("~", at)) > 0; at = next(sketch)) bounds.push([at, sketch - 1]);
+        const steps = bounds.length && (bounds.length - 1) * BLOCK + text.slice(...bounds.at(-1)).split("\n").length;
+        // Between which places of the text the lines of each block stand; the blocks that are read; and where processes exited.
+        Object.assign(this, { text, procs, lanes, bounds, steps, blocks: bounds.length, read: new Map(), exits: Array(lanes).fill(null) });
+        const makes = this.placesOf(";0m"), last = this.blocks * lanes;
+        this.readSketches(makes.length + 1);
+        for (const place of this.placesOf("e;0k")) this.exits[this.step(place).pid] = place;
+        // The steps that stalled calls; of each port its room, or 0 if it never held a value; how many steps each process asked, and for how
+        // many its calls waited. A lane more stands for all processes that there are not, if any asked.
+        const rooms = makes.map((place, at) => (this.mostOf(at + 1, 0, steps) ? Number(this.step(place).more) : 0));
+        const asks = [...this.asked.subarray(last)].filter((count, lane) => lane < procs || count > 0);
+        const waits = asks.map((_, lane) => this.waited[last + lane] - (this.open[last + lane] !== NEVER));
+        Object.assign(this, { ports: makes.length, stalls: this.placesOf("S"), rooms, asks, waits });
     }
-    blockAt(place) { return Math.floor(place / this.size); }
-    endOfBlock(at) { return Math.min(this.steps, (at + 1) * this.size); }
+    // The steps in whose lines these letters stand.
+    placesOf(letters) {
+        const { text, bounds } = this, places = [];
+        for (let at, block = 0, place = 0, line = 0; (at = text.indexOf(letters, line)) > 0; places.push(place - 1)) {
+            while (bounds[block + 1]?.[0] <= at) block++;
+            if (line < bounds[block][0]) [line, place] = [bounds[block][0], block * BLOCK];
+            for (; line <= at; place++) line = text.indexOf("\n", line) + 1;
+        }
+        return places;
+    }
+    // Fills tables that have a row for each block, and one more. By lanes there stands: for how many steps the process waited before the
+    // block, how many it asked, how often it had trouble, and the call that waits then; and by ports: how many values were sent and received
+    // before, and the most that the port held in the block before.
+    readSketches(width) {
+        const { text, bounds, lanes } = this, widths = { waited: lanes, asked: lanes, troubles: lanes, open: lanes, sent: width, got: width, most: width };
+        for (const [name, width] of Object.entries(widths)) this[name] = new Uint32Array((bounds.length + 1) * width);
+        Object.assign(this, { width }).open.fill(NEVER);
+        for (const [block, [, behind]] of bounds.entries()) this.readSketch(block, text.slice(behind + 2, text.indexOf("\n", behind + 1)));
+        for (const name of ["waited", "asked", "troubles", "sent", "got"])
+            for (let at = widths[name], sums = this[name]; at < sums.length; at++) sums[at] += sums[at - widths[name]];
+        for (let at = width; at < this.most.length; at++) this.most[at] = Math.max(this.most[at], this.sent[at - width] - this.got[at - width]);
+    }
+    // A sketch is letters with numbers; what follows a process or a port is of it.
+    readSketch(block, sketch) {
+        for (let at = 0, row = 0, letter, number, digit; at < sketch.length;) {
+            for (letter = sketch[at++], number = 0; (digit = sketch.charCodeAt(at) - 48) <= 9; at++) number = number * 10 + digit;
+            if (letter === "P") row = (block + 1) * this.lanes + number;
+            else if (letter === "p") row = (block + 1) * this.width + number;
+            else this[TABLES[letter]][row] = letter === "o" ? this.endOfBlock(block) - number : number;
+        }
+    }
+    blockAt(place) { return Math.floor(place / BLOCK); }
+    endOfBlock(at) { return Math.min(this.steps, (at + 1) * BLOCK); }
+    block(at) {
+        if (!this.read.has(at)) this.read.set(at, new Block(this, at));
+        if (this.read.size > MOST_READ) this.read.delete(this.read.keys().next().value);
+        return this.read.get(at);
+    }
+    blocksOf(first, end) { return numbers(this.blockAt(first), Math.ceil(end / BLOCK)).map((at) => this.block(at)); }
     // The step at a place, if it is there.
-    step(place) {
-        if (place >= this.steps) return null;
-        if (this.read.size > MOST_READ) this.read.clear();
-        if (!this.read.has(place)) this.read.set(place, new Step(this, place));
-        return this.read.get(place);
-    }
+    step(place) { return place < this.steps ? this.block(this.blockAt(place)).steps[place % BLOCK] : null; }
     stepsOf(first, end) { return numbers(first, end).map((place) => this.step(place)); }
-    endOf(place) { return this.by[place] === NEVER ? STILL_WAITS : { by: this.by[place], letter: ENDED[this.letter[place]], number: this.number[place] }; }
-    // The steps that were asked before the second one and went on until the first one at least: a row of the table has those that wait.
+    endOf({ place, lane }) {
+        let at = this.blockAt(place);
+        while (at < this.blocks && this.open[(at + 1) * this.lanes + lane] === place) at++;
+        return at < this.blocks ? this.block(at).ends.get(place) : STILL_WAITS;
+    }
+    // The k-th value that is sent on a port is the k-th that is received from it, so it is known in which block that is.
+    receiverOf({ place, end, shown: { port } }) {
+        let at = this.blockAt(end.by);
+        const before = this.sent[at * this.width + port] + this.block(at).senders[port].indexOf(place);
+        while (at < this.blocks && this.got[(at + 1) * this.width + port] <= before) at++;
+        return at < this.blocks ? this.step(this.block(at).receivers.get(place)) : null;
+    }
+    // The steps that were asked before the second one and went on until the first one at least.
     goingOn(first, end) {
         const at = this.blockAt(first), waiting = [...this.open.subarray(at * this.lanes, (at + 1) * this.lanes)].filter((place) => place !== NEVER);
-        return [...waiting, ...numbers(at * this.size, end)].map((place) => this.step(place)).filter((step) => step.end.by >= first);
+        return [...waiting, ...numbers(at * BLOCK, end)].map((place) => this.step(place)).filter((step) => step.end.by >= first);
     }
     endsOf(first, end) { return this.goingOn(first, end).filter((step) => step.end.by < end); }
-    tell(first, end, told) { if (first < end) readLines(this.text, this.begin[first], first, end, told); }
-    stallAt(place) {
-        const stall = { place, calls: [], last: {}, guesses: {} };
-        const end = (by, call, letter) => letter === "S" && stall.calls.push(call);
-        this.tell(place, place + 1, { end, last: (...ends) => ends[0] && (stall.last[ends[0]] = ends), guess: (...pair) => (stall.guesses[pair] = pair) });
-        return stall.calls.length ? stall : null;
-    }
+    stallAt(place) { return this.block(this.blockAt(place)).stalls[place]; }
     stallsOf(first, end) { return this.stalls.filter((place) => place >= first && place < end).map((place) => this.stallAt(place)); }
+    levelBefore(at, port) { return this.sent[at * this.width + port] - this.got[at * this.width + port]; }
+    mostOf(port, first, end) { return Math.max(...numbers(this.blockAt(first), Math.ceil(end / BLOCK)).map((at) => this.most[(at + 1) * this.width + port])); }
     // In what share of these steps a process waited or asked, by the tables.
     share(name, lane, first, end) { return (this.before(name, lane, end) - this.before(name, lane, first)) / (end - first); }
     before(name, lane, step) {
-        const at = Math.min(this.blocks - 1, this.blockAt(step)), part = (step - at * this.size) / (this.endOfBlock(at) - at * this.size);
-        const here = this[name][at * this.lanes + lane], next = this[name][(at + 1) * this.lanes + lane];
-        return here + (next - here) * part;
-    }
-    mostOf(port, first, end) { return Math.max(...numbers(this.blockAt(first), Math.ceil(end / this.size)).map((at) => this.most[at * this.width + port])); }
-}
-// Fills the tables of a journal. Those by blocks are for views in which a step is smaller than a dot.
-class Counter {
-    constructor(journal) {
-        const open = Array(journal.lanes).fill(NEVER), lanes = new Uint8Array(journal.steps);
-        Object.assign(this, { journal, open, lanes, made: [], letter: "", room: 0, before: NEVER });
-    }
-    // What is counted in a block stands in the row behind its own, which begins as its own.
-    beginBlock(block) {
-        const { journal } = this, { lanes, width, size } = journal;
-        for (const name of ["waited", "asked", "troubles"]) journal[name].copyWithin((block + 1) * lanes, block * lanes, (block + 1) * lanes);
-        journal.level.copyWithin((block + 1) * width, block * width, (block + 1) * width);
-        journal.most.set(journal.level.subarray(block * width, (block + 1) * width), block * width);
-        Object.assign(this, { block, first: block * size, row: (block + 1) * lanes, ports: block * width });
-    }
-    endBlock() {
-        const { journal, first, row, open } = this, end = journal.endOfBlock(this.block);
-        for (const [lane, since] of open.entries()) if (since !== NEVER) journal.waited[row + lane] += end - Math.max(since, first);
-        journal.open.set(open, row);
-    }
-    // A step waits until its end is told.
-    step(place, begin, behind) {
-        const { journal } = this, pid = parseInt(journal.text.slice(begin, begin + 3), 10), lane = Math.min(pid, journal.procs);
-        if (place && place % journal.size === 0) this.endBlock();
-        if (place % journal.size === 0) this.beginBlock(place / journal.size);
-        const at = begin + String(pid).length;
-        Object.assign(this, { letter: journal.text[at], room: at + 1, before: this.open[lane] });
-        [journal.begin[place], journal.behind[place], this.lanes[place], this.open[lane]] = [begin, behind, lane, place];
-        journal.asked[this.row + lane]++;
-    }
-    end(place, call, letter, number, sender) {
-        const { journal, first, row } = this, lane = this.lanes[call];
-        [journal.by[call], journal.letter[call], journal.number[call]] = [place, ENDED.indexOf(letter), number];
-        this.open[lane] = call === place ? this.before : NEVER;
-        if (call < place) journal.waited[row + lane] += place - Math.max(call, first);
-        if (letter === "g") [journal.partner[call], journal.partner[sender]] = [sender, call];
-        if ("Sfc".includes(letter)) journal.troubles[row + lane]++;
-        if (letter === "S" && journal.stalls.at(-1) !== place) journal.stalls.push(place);
-        if (letter === "m") this.made[number] = parseInt(journal.text.slice(this.room, this.room + 10), 10);
-        if (letter === "k" && this.letter === "e") journal.exits[lane] = place;
-    }
-    hold(place, port, count) {
-        const { journal, ports } = this;
-        journal.level[ports + journal.width + port] = count;
-        journal.most[ports + port] = Math.max(journal.most[ports + port], count);
-        if (count) journal.rooms[port - 1] = this.made[port];
+        const at = Math.min(this.blocks - 1, this.blockAt(step)), part = (step - at * BLOCK) / (this.endOfBlock(at) - at * BLOCK);
+        return this[name][at * this.lanes + lane] * (1 - part) + this[name][(at + 1) * this.lanes + lane] * part;
     }
 }
 const counted = (count, word) => `${count} ${word}${count === 1 ? "" : "s"}`;

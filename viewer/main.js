@@ -61,7 +61,7 @@ class Page {
         const { journal } = this, tests = (words.match(/port \d+|step \d+|P\d+|=\S+|\S+/gi) ?? []).map((word) => this.testOf(word));
         Object.assign(this, { words, found: [], marks: new Set() });
         for (let at = 0, told = performance.now(); at < journal.blocks && tests.length; at++) {
-            for (const step of journal.stepsOf(at * journal.size, journal.endOfBlock(at))) if (tests.every((test) => test(step))) this.found.push(step.place);
+            for (const step of journal.block(at).steps) if (tests.every((test) => test(step))) this.found.push(step.place);
             if (performance.now() - told < 15) continue;
             byId("count").textContent = `${this.found.length}, searching`;
             await new Promise(requestAnimationFrame);

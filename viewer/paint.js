@@ -130,12 +130,14 @@ class Painter {
         Object.assign(this.pen, { textAlign: "center", fillStyle: this.colour("dim") }).fillText("step", LEFT - 36, 14);
         for (let step = Math.ceil((first + 1) / every) * every; step <= end; step += every) this.pen.fillText(step, view.x(step - 1), 14);
     }
-    // The whole: how many wait, where it stalled, and what was found.
+    // The whole: how many wait, where it stalled, and what was found. Of few steps each call is counted, since a block is wide there.
     paintWhole(canvas, found) {
         const { journal } = this, { procs, stalls } = journal, count = Math.max(1, journal.steps), width = canvas.parentElement.clientWidth;
         const x = (step) => Math.floor(step / scale), scale = count / width;
         this.begin(canvas, width, 54);
-        const waiting = (first, end) => numbers(0, procs).reduce((sum, lane) => sum + journal.share("waited", lane, first, end), 0) / procs;
+        const shares = count > MOST_SHAPES ? numbers(0, procs).map((lane) => (first, end) => journal.share("waited", lane, first, end))
+            : journal.goingOn(0, journal.steps).filter((call) => call.waits).map((call) => (first, end) => call.share(first, end));
+        const waiting = (first, end) => shares.reduce((sum, share) => sum + share(first, end), 0) / procs;
         this.fillColumns("h1", 0, width, 48, (column) => 32 * waiting(column * scale, (column + COLUMN) * scale), 1);
         for (const place of stalls) this.fill("trouble", x(place), 16, Math.max(2, x(1)), 32);
         for (const column of new Set(found.map(x))) this.fill("on", column, 48, 2, 6);

@@ -50,17 +50,19 @@ function stallText({ calls, last, guesses }, journal) {
         <h3>Who was there last</h3>${tableOf([[\"port\", \"sent by\", \"received by\"], ...ends.map(([port, ...places]) => [port, ...places.map(mover)])])}`;
 }
 // The whole: the first deadlock and the last four, processes and ports, and the end of the story, with links to its steps.
-function wholeText({ steps, procs, stalls, rooms, waits, exits }, story) {
+function wholeText(journal, story) {
+    const { steps, procs, stalls, rooms, asks, waits, exits } = journal, ends = [...stalls.slice(0, 1), ...stalls.slice(1).slice(-4)];
     const forms = [\"open\", \"folded\", \"hidden\", \"on top\"], optionsOf = (texts) => texts.map((text) => html`<option>${text}`);
     const shownAs = (lane, texts) => html`<select data-process=\"${lane}\" aria-label=\"${lane} shown as\">${optionsOf(texts)}</select>`;
     const exit = (lane) => exits[lane] !== null && link(exits[lane]), name = (lane) => (lane < procs ? `P${lane}` : \"unknown\");
-    const rows = waits.map((waited, lane) => [name(lane), `waited ${waited}`, exit(lane), shownAs(lane, forms)]);
+    const rows = waits.map((waited, lane) => [name(lane), asks[lane], waited, exit(lane), shownAs(lane, forms)]);
+    const stalled = ({ place, calls }) => html`${link(place)} stalls ${calls.map((call) => `P${journal.step(call).pid}`).join(\", \")}`;
     const ports = rooms.map((room, at) => room > 0 && html`<label><input type=\"checkbox\" data-port=\"${at + 1}\" checked> port ${at + 1}</label> `);
-    const linked = { html: story.replace(/(?<=step )\\d+|(?<=^ +)\\d+(?= +P)/gm, (step) => link(step - 1, step).html) };
+    const linked = { html: story.replace(/(?<=step |until )\\d+|(?<=^ +)\\d+(?= +P)/gm, (step) => link(step - 1, step).html) };
     return html`<h2>The whole</h2><p>${counted(steps, \"step\")} of ${procs} processes on ${counted(rooms.length, \"port\")}</p>
-        <h3>${counted(stalls.length, \"deadlock\")}</h3>${listOf([...stalls.slice(0, 1), ...stalls.slice(1).slice(-4)].map((place) => link(place)))}
+        <h3>${counted(stalls.length, \"deadlock\")}</h3>${listOf(ends.map((place) => stalled(journal.stallAt(place))))}
         <h3>Shown</h3><p>${ports}</p>
         <p><select id=\"order\" aria-label=\"their order\">${optionsOf([\"by number\", \"by time waited\"])}</select> ${shownAs(\"all\", [\"all\", ...forms])}</p>
-        ${tableOf(rows)}<h3>The end of the story</h3><pre>${linked}</pre>`;
+        ${tableOf([[\"\", \"steps\", \"waited\", \"exit\", \"shown\"], ...rows])}<h3>The end of the story</h3><pre>${linked}</pre>`;
 }
 ";

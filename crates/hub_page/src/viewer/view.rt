@@ -52,16 +52,16 @@ class View {
     bars() { return this.journal.goingOn(...this.range()).filter((call) => call.waits && this.isShown(call)); }
     // The receivers of the values of which at least one end is in view.
     arrows() {
-        const receivers = this.journal.endsOf(...this.range()).map((call) => call.receiver);
-        return [...new Set(receivers)].filter((to) => to && this.isShown(to, to.sender));
+        const receivers = this.journal.endsOf(...this.range()).map((call) => call.receiver?.place);
+        return [...new Set(receivers)].map((place) => this.journal.step(place)).filter((to) => to && this.isShown(to, to.sender));
     }
     // What ports hold as far as it can be seen: each count from one step until another.
     levels() {
         const { journal } = this, [first, last] = this.range(), end = Math.min(journal.steps, this.stepAt(this.width) + 2), at = journal.blockAt(first);
-        const before = (port) => ({ port, from: at * journal.size - 1, count: journal.level[at * journal.width + port] });
+        const before = (port) => ({ port, from: at * BLOCK - 1, count: journal.levelBefore(at, port) });
         const told = new Map(this.strips().map((port) => [port, [before(port)]]));
-        const hold = (from, port, count) => count !== told.get(port)?.at(-1).count && told.get(port)?.push({ port, from, count });
-        journal.tell(at * journal.size, Math.max(end, last), { hold });
+        for (const level of journal.blocksOf(first, Math.max(end, last)).flatMap((block) => block.levels))
+            if (level.count !== told.get(level.port)?.at(-1).count) told.get(level.port)?.push(level);
         const levels = [...told.values()].flatMap((own, row) => own.map((level, at) => ({ ...level, row, until: own[at + 1]?.from ?? Math.max(end, first) })));
         return levels.filter((level) => level.count && level.until >= first && level.from < last);
     }

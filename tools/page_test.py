@@ -22,6 +22,7 @@ import re
 import subprocess
 import sys
 import tempfile
+import time
 import unicodedata
 import urllib.parse
 
@@ -461,6 +462,24 @@ def check_long(browser, count, work, seed, total):
     count.run(f"data of long journal {seed}", lambda: check_data(browser, journal))
     count.run(f"overview of long journal {seed}", lambda: check_overview(text, journal))
     count.run(f"search in long journal {seed}", lambda: check_search(browser, journal))
+
+
+BURST = "chanhub journal 1\nprocs 2\n0 make 100\n" + "".join(f"0 send 1 {n}\n" for n in range(100)) + "1 recv 1\n" * 90
+
+
+def check_burst(browser, count, work):
+    """Values that lie in a port for a block and more, so that one end is out of view; the last ten stay there."""
+    journal = picture.Journal(BURST.encode())
+    open_page(browser, BURST, work / "burst.html")
+
+    def test(first):
+        drawn, at = drawn_at(browser, journal, first, 40)
+        check_shapes(drawn, journal, *at)
+
+    for first in range(0, len(journal.lines) - 40, 30):
+        count.run(f"a burst, 40 steps from {first + 1} on", lambda: test(first))
+    partners = browser.value("page.journal.stepsOf(1, 101).map((step) => step.partner && step.partner.place)")
+    count.test("the other ends of values", partners == [*range(101, 191), *[None] * 10], partners)
 
 
 # ---- whether this test would notice
@@ -1010,9 +1029,10 @@ def measure(folder):
                 page.write_page(journal, made.write)
         with tempfile.TemporaryDirectory() as user:
             browser = Browser(user)
+            begin = time.monotonic()
             browser.open(path)
-            opened, steps = browser.seconds(), browser.value("page.journal.steps")
-            print(f"{name}: {path.stat().st_size / steps:.1f} bytes a step, open after {opened:.2f} s")
+            clock, opened, steps = time.monotonic() - begin, browser.seconds(), browser.value("page.journal.steps")
+            print(f"{name}: {path.stat().st_size / steps:.1f} bytes a step, open after {opened:.2f} s of the processor, {clock:.2f} s by the clock")
             for share in 1, 0.1, 0.01, 0.005, 0.0005, 0.0001:
                 browser.value(f"page.view.show({steps} * 0.3, {steps} * {share}); page.paint()")
                 took = browser.value(PAN)
@@ -1043,6 +1063,7 @@ def main():
             check_random(browser, count, work, seed)
         for seed, total in LONG:
             check_long(browser, count, work, seed, total)
+        count.run("values that lie in a port", lambda: check_burst(browser, count, work))
         count.test("no error in the console of right pages", not browser.errors, browser.errors[:2])
         count.run("wrong data", lambda: check_notices(browser, count, work))
         path = work / "pipe.html"

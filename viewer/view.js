@@ -57,7 +57,7 @@ class View {
         const { journal } = this, [first, last] = this.range(), end = Math.min(journal.steps, this.stepAt(this.width) + 2), at = journal.blockAt(first);
         const before = (port) => ({ port, from: at * BLOCK - 1, count: journal.levelBefore(at, port) });
         const told = new Map(this.strips().map((port) => [port, [before(port)]]));
-        for (const level of journal.blocksOf(first, Math.max(end, last)).flatMap((block) => block.levels))
+        for (const level of numbers(at, Math.ceil(Math.max(end, last) / BLOCK)).flatMap((at) => journal.block(at).levels))
             if (level.count !== told.get(level.port)?.at(-1).count) told.get(level.port)?.push(level);
         const levels = [...told.values()].flatMap((own, row) => own.map((level, at) => ({ ...level, row, until: own[at + 1]?.from ?? Math.max(end, first) })));
         return levels.filter((level) => level.count && level.until >= first && level.from < last);

@@ -11,7 +11,7 @@ const numbers = (first, end) => Array.from({ length: Math.max(0, end - first) },
 class Step {
     constructor(journal, place, entry) {
         const [, pid, letter, more] = /(\\d+)(.)(.*)/.exec(entry);
-        Object.assign(this, { journal, place, pid: Number(pid), letter, more });
+        [this.journal, this.place, this.pid, this.letter, this.more] = [journal, place, Number(pid), letter, more];
     }
     // By which step it ended and how: a letter of ENDS, the number of the case, of the port made or of the fault, and who sent what it got.
     get end() { return this.known ??= this.journal.endOf(this); }
@@ -19,7 +19,6 @@ class Step {
     get isTrouble() { return this.endsBy(\"Sfc\"); }
     get waits() { return this.end.by > this.place; }
     get waited() { return counted(Math.min(this.end.by, this.journal.steps - 1) - this.place, \"step\"); }
-    // In what share of these steps it waited.
     share(first, end) { return Math.max(0, Math.min(this.end.by, end) - Math.max(this.place, first)) / (end - first); }
     // Those of processes that there are not stand in a lane below all others.
     get lane() { return Math.min(this.pid, this.journal.procs); }
@@ -96,8 +95,7 @@ class Journal {
         const makes = this.placesOf(\";0m\"), last = this.blocks * lanes;
         this.readSketches(makes.length + 1);
         for (const place of this.placesOf(\"e;0k\")) this.exits[this.step(place).pid] = place;
-        // The steps that stalled calls; of each port its room, or 0 if it never held a value; how many steps each process asked, and for how
-        // many its calls waited. A lane more stands for all processes that there are not, if any asked.
+        // The rooms of ports, 0 of those that never held a value; and what each process asked and waited, and all that there are not if any asked.
         const rooms = makes.map((place, at) => (this.mostOf(at + 1, 0, steps) ? Number(this.step(place).more) : 0));
         const asks = [...this.asked.subarray(last)].filter((count, lane) => lane < procs || count > 0);
         const waits = asks.map((_, lane) => this.waited[last + lane] - (this.open[last + lane] !== NEVER));
@@ -121,19 +119,18 @@ class Journal {
         for (const [name, width] of Object.entries(widths)) this[name] = new Uint32Array((bounds.length + 1) * width);
         Object.assign(this, { width }).open.fill(NEVER);
         for (const [block, [, behind]] of bounds.entries()) this.readSketch(block, text.slice(behind + 2, text.indexOf(\"\\n\", behind + 1)));
+        for (const name of [\"waited\", \"asked\", \"troubles\", \"sent\", \"got\"])
 ";
 
 pub(super) const SECOND: &[u8] =
-    b"        for (const name of [\"waited\", \"asked\", \"troubles\", \"sent\", \"got\"])
-            for (let at = widths[name], sums = this[name]; at < sums.length; at++) sums[at] += sums[at - widths[name]];
+    b"            for (let at = widths[name], sums = this[name]; at < sums.length; at++) sums[at] += sums[at - widths[name]];
         for (let at = width; at < this.most.length; at++) this.most[at] = Math.max(this.most[at], this.sent[at - width] - this.got[at - width]);
     }
     // A sketch is letters with numbers; what follows a process or a port is of it.
     readSketch(block, sketch) {
         for (let at = 0, row = 0, letter, number, digit; at < sketch.length;) {
             for (letter = sketch[at++], number = 0; (digit = sketch.charCodeAt(at) - 48) <= 9; at++) number = number * 10 + digit;
-            if (letter === \"P\") row = (block + 1) * this.lanes + number;
-            else if (letter === \"p\") row = (block + 1) * this.width + number;
+            if (letter === \"P\" || letter === \"p\") row = (block + 1) * (letter === \"P\" ? this.lanes : this.width) + number;
             else this[TABLES[letter]][row] = letter === \"o\" ? this.endOfBlock(block) - number : number;
         }
     }
@@ -144,7 +141,6 @@ pub(super) const SECOND: &[u8] =
         if (this.read.size > MOST_READ) this.read.delete(this.read.keys().next().value);
         return this.read.get(at);
     }
-    blocksOf(first, end) { return numbers(this.blockAt(first), Math.ceil(end / BLOCK)).map((at) => this.block(at)); }
     // The step at a place, if it is there.
     step(place) { return place < this.steps ? this.block(this.blockAt(place)).steps[place % BLOCK] : null; }
     stepsOf(first, end) { return numbers(first, end).map((place) => this.step(place)); }
@@ -169,7 +165,11 @@ pub(super) const SECOND: &[u8] =
     stallAt(place) { return this.block(this.blockAt(place)).stalls[place]; }
     stallsOf(first, end) { return this.stalls.filter((place) => place >= first && place < end).map((place) => this.stallAt(place)); }
     levelBefore(at, port) { return this.sent[at * this.width + port] - this.got[at * this.width + port]; }
-    mostOf(port, first, end) { return Math.max(...numbers(this.blockAt(first), Math.ceil(end / BLOCK)).map((at) => this.most[(at + 1) * this.width + port])); }
+    mostOf(port, first, end) {
+        let most = 0;
+        for (let at = this.blockAt(first); at * BLOCK < end; at++) most = Math.max(most, this.most[(at + 1) * this.width + port]);
+        return most;
+    }
     // In what share of these steps a process waited or asked, by the tables.
     share(name, lane, first, end) { return (this.before(name, lane, end) - this.before(name, lane, first)) / (end - first); }
     before(name, lane, step) {

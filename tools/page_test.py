@@ -40,7 +40,7 @@ BLOCK, NEVER = 64, 0xffffffff  # steps; no step
 MOST_BYTES = 60
 VIEWER_LINES, VIEWER_WIDTH = 600, 160
 # a million steps: seconds of the processor until they are open, and for a view of them
-MILLION, MOST_OPENING, MOST_VIEW = 1000000, 3, 0.25
+MILLION, MOST_OPENING, MOST_VIEW = 1000000, 1.5, 0.25
 LONG = [(101, 3000), (102, 3000), (103, 2000)]  # seeds of longer journals, and how many steps they have
 WIDTH, HEIGHT = 1440, 860
 COLOURS = "paper text dim rule grey edge trouble on words link h0 h1 h2 h3 h4 h5 h6 h7".split()
@@ -507,8 +507,8 @@ WORKERS = "chanhub journal 2\nprocs 4\n0 make 2\n0 make 0\n0 make 0\n3 recv 3\n"
 def check_notices(browser, count, work):
     """Each of these wrong data makes the shapes of some window differ from those expected."""
     path, text, journal = work / "wrong.html", page_of(WORKERS), picture.Journal(WORKERS.encode())
-    begin = text.index('id="data">') + len('id="data">')
-    end = text.index("</script>", begin)
+    begin = text.index("<!--") + len("<!--")
+    end = text.index("-->", begin)
 
     def is_right(data):
         path.write_text(text[:begin] + data + text[end:])
@@ -1048,7 +1048,7 @@ def main():
         print("0 passed, 0 failed, 1 skipped")
         sys.exit(77)
     words = sys.argv[1:]
-    if words and not words[0].isdigit():
+    if words and words[0] != "--long" and not words[0].isdigit():
         TOOLS.append(words.pop(0))
     if words[:1] == ["--long"]:
         with tempfile.TemporaryDirectory() as folder:

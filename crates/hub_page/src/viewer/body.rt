@@ -60,5 +60,5 @@ pub(super) const TEXT: &[u8] = b"</style>
 <aside id=\"panel\" aria-label=\"What is chosen\">
 <div id=\"step\" aria-live=\"polite\"></div>
 <div id=\"whole\"></div>
-<script type=\"text/plain\" id=\"data\">
+<div id=\"data\" hidden><!--
 ";

@@ -119,11 +119,11 @@ class Journal {
         for (const [name, width] of Object.entries(widths)) this[name] = new Uint32Array((bounds.length + 1) * width);
         Object.assign(this, { width }).open.fill(NEVER);
         for (const [block, [, behind]] of bounds.entries()) this.readSketch(block, text.slice(behind + 2, text.indexOf(\"\\n\", behind + 1)));
-        for (const name of [\"waited\", \"asked\", \"troubles\", \"sent\", \"got\"])
 ";
 
 pub(super) const SECOND: &[u8] =
-    b"            for (let at = widths[name], sums = this[name]; at < sums.length; at++) sums[at] += sums[at - widths[name]];
+    b"        const add = (sums, width) => { for (let at = width; at < sums.length; at++) sums[at] += sums[at - width]; };
+        for (const name of [\"waited\", \"asked\", \"troubles\", \"sent\", \"got\"]) add(this[name], widths[name]);
         for (let at = width; at < this.most.length; at++) this.most[at] = Math.max(this.most[at], this.sent[at - width] - this.got[at - width]);
     }
     // A sketch is letters with numbers; what follows a process or a port is of it.

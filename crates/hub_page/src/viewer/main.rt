@@ -141,6 +141,6 @@ class Page {
         this.draw();
     }
 }
-var page = new Page(new Journal(byId(\"data\").textContent.trimStart()), byId(\"story\").textContent.replace(/^\\n.*\\n/, \"\"));
+var page = new Page(new Journal(byId(\"data\").firstChild.data.trimStart()), byId(\"story\").textContent.replace(/^\\n.*\\n/, \"\"));
 document.body.inert = false;
 ";

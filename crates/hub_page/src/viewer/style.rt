@@ -84,7 +84,8 @@ button:hover { background: var(--soft); }
 .following .arrow.found { stroke: var(--on); stroke-width: 3; }
 #panel { grid-area: 2 / 2; overflow-y: auto; padding: 12px 14px; border-left: 1px solid var(--line); background: var(--soft); overflow-wrap: anywhere; }
 #panel table { border-collapse: collapse; width: 100%; }
-#panel th { text-align: left; font-weight: 400; color: var(--dim); padding: 1px 8px 1px 0; vertical-align: top; }
+#panel th { text-align: left; font-weight: 400; color: var(--dim); padding: 1px 8px 1px 0; vertical-align: top; white-space: nowrap; }
+#panel label { white-space: nowrap; }
 #panel td { padding: 1px 6px 1px 0; vertical-align: top; font-variant-numeric: tabular-nums; }
 #panel .lines { overflow-wrap: normal; }
 #panel .lines tr { border-bottom: 1px solid var(--line); }

@@ -49,11 +49,12 @@ class Move:
 
 
 def told(letter, number):
+    """Both, unless the number is 0."""
     return f"{letter}{number}" if number else ""
 
 
 class Sketch:
-    """What the steps of a block have in common, so far; by lane how long processes waited, and by port how values moved."""
+    """What the steps of a block have in common, so far: by lane what processes waited and asked, and by port how values moved."""
 
     def __init__(self, first):
         self.first = first

@@ -464,6 +464,19 @@ def check_long(browser, count, work, seed, total):
     count.run(f"search in long journal {seed}", lambda: check_search(browser, journal))
 
 
+def check_edges(browser, count, work):
+    """Journals of no step, and of as many as blocks have, with one more or less."""
+    open_page(browser, "chanhub journal 1\nprocs 2\n", work / "empty.html")
+    told = browser.value("[page.journal.steps, page.journal.blocks, document.querySelector('#whole p').textContent]")
+    count.test("a page of no steps", told == [0, 0, "0 steps of 2 processes on 0 ports"], told)
+    for total in 1, BLOCK - 1, BLOCK, BLOCK + 1, 2 * BLOCK:
+        text = RandomJournal(total, total).text()
+        journal = picture.Journal(text.encode())
+        open_page(browser, text, work / "edges.html")
+        count.run(f"sketches of {total} steps", lambda: check_sketches(text, journal))
+        count.run(f"data of {total} steps", lambda: check_data(browser, journal))
+
+
 BURST = "chanhub journal 1\nprocs 2\n0 make 100\n" + "".join(f"0 send 1 {n}\n" for n in range(100)) + "1 recv 1\n" * 90
 
 
@@ -1063,6 +1076,7 @@ def main():
             check_random(browser, count, work, seed)
         for seed, total in LONG:
             check_long(browser, count, work, seed, total)
+        count.run("few steps", lambda: check_edges(browser, count, work))
         count.run("values that lie in a port", lambda: check_burst(browser, count, work))
         count.test("no error in the console of right pages", not browser.errors, browser.errors[:2])
         count.run("wrong data", lambda: check_notices(browser, count, work))

@@ -3,14 +3,17 @@
 windows, and compares each text with the one that story_model.py writes. Runs the rows of tests/stories.toml and
 tests/faulty_journals.toml too, and stories with each allocation refused, which needs a C compiler. The last line counts:
 'N passed, M failed'."""
+import contextlib
 import gc
 import os
 import pathlib
+import pty
 import random
 import subprocess
 import sys
 import tempfile
 import tomllib
+import tty
 
 sys.dont_write_bytecode = True
 from counting import Count
@@ -61,6 +64,23 @@ class Program:
             status, peak = map(int, said.split()[-2:])
             return status, text.seek(0, os.SEEK_END), peak
 
+    def run_in_terminal(self, words, journal, **environment):
+        """What it writes to a terminal of a short journal."""
+        reader, terminal = pty.openpty()
+        tty.setraw(terminal)
+        env = {**{name: value for name, value in os.environ.items() if name != "NO_COLOR"}, **environment}
+        with subprocess.Popen([self.path, *words], stdin=subprocess.PIPE, stdout=terminal, env=env) as child:
+            os.close(terminal)
+            child.stdin.write(journal)
+            child.stdin.close()
+            pieces = []
+            # A terminal that nobody writes to any longer is one that can't be read.
+            with contextlib.suppress(OSError):
+                while piece := os.read(reader, 4096):
+                    pieces.append(piece)
+        os.close(reader)
+        return b"".join(pieces)
+
     def run_to_full(self, words, journal=b""):
         """The status and what was written to standard error, where standard output takes nothing."""
         with open("/dev/full", "wb") as full:
@@ -107,6 +127,30 @@ def texts(program, work):
         yield name, program.tells(journal, story, None)
         for window in ((1, count), (1, (count + 1) // 2), (one, one)) if by_windows else ():
             yield f"{name}, steps {window[0]} to {window[1]}", program.tells(journal, story, window)
+
+
+def colours(program, work):
+    """In colours where these are asked for, or where the story goes to a terminal and the environment does not refuse them."""
+    for name, journal, by_windows in journals(work):
+        if by_windows:
+            story = Story(journal)
+            count = len(story.entries)
+            for when, coloured in (("always", True), ("never", False), ("auto", False)):
+                wanted = 0, story.text(1, count, coloured), b""
+                yield f"{name}, {when}", program.run(["story", "--color", when], journal.encode()) == wanted
+    for row in table("stories")["story"]:
+        journal, story = row["journal"].encode(), Story(row["journal"])
+        plain, coloured = (story.text(1, len(story.entries), is_so) for is_so in (False, True))
+        for words, environment, wanted in (
+            ([], {}, coloured),
+            ([], {"NO_COLOR": ""}, coloured),
+            ([], {"NO_COLOR": "1"}, plain),
+            ([], {"NO_COLOR": "no longer than one byte"}, plain),
+            (["--color=never"], {}, plain),
+            (["--color=always"], {"NO_COLOR": "1"}, coloured),
+            (["-o", "/dev/stdout"], {}, plain),
+        ):
+            yield f"{row['name']}, {words}, {environment}", program.run_in_terminal(["story", *words], journal, **environment) == wanted
 
 
 def worked(program, _):
@@ -202,7 +246,7 @@ def count(program, *parts):
 
 
 def main():
-    parts = worked, texts, faulty_journals, devices, refused_allocations, longest_journals, most_entries
+    parts = worked, texts, colours, faulty_journals, devices, refused_allocations, longest_journals, most_entries
     return count(Program(sys.argv[1]), *parts)
 
 

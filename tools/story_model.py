@@ -16,6 +16,7 @@ FAULTS = ["no such process", "the process has exited", "the process still waits 
           "the capacity is too large", "too many ports", "close of the nil port", "close of a closed port",
           "the journal is full", "out of memory", "that process does not wait"]
 HEADING = "   step  who asks what                  answer            waited              partner or reason     what else it does"
+NO_COLOUR = "\x1b[0m"
 LONGEST = 5  # how many of the longest waits are told
 ASKS, ANSWER, WAITED, VALUE, ENDS = (HEADING.index(word) for word in ("who", "answer", "waited", "partner", "what else"))
 DOES = {"case": "frees", "cancelled": "cancels", "stalled": "stalls"}  # by the first word of the event that ends a call
@@ -182,11 +183,12 @@ class Story:
         for place in sorted(steps, key=lambda place: (-steps[place], place))[:LONGEST]:
             yield self.line(place)
 
-    def text(self, first, last):
-        """The text of the steps from one to another, counted from 1."""
+    def text(self, first, last, coloured=False):
+        """The text of the steps from one to another, counted from 1; their lines in colours if these are asked for."""
         lines = [HEADING]
         for place in range(first - 1, last):
-            lines += [self.line(place), *self.entries[place].below]
+            line, colour = self.line(place), colour_of(self.entries[place].end) if coloured else ""
+            lines += [f"{colour}{line}{NO_COLOUR}" if colour else line, *self.entries[place].below]
         lines += [self.port_line(number) for number in range(1, len(self.ports) + 1)]
         lines += self.waits()
         if self.waiting:
@@ -194,6 +196,13 @@ class Story:
         else:
             lines.append("in the end no call waits")
         return "".join(line + "\n" for line in lines).encode()
+
+
+def colour_of(end):
+    """The escape sequence before the line of a step that ended so: yellow where it waits, red for trouble."""
+    if end is None:
+        return "\x1b[33m"
+    return "\x1b[31m" if end == "stalled" or end.startswith("fault") or end.endswith(" closed") else ""
 
 
 def cell(line, column, words):

@@ -10,7 +10,7 @@ use Rattle.hub_story.specs.declared.story.Story.{Story}
 use Rattle.hub_story.specs.Stories.{IsStoryOf}
 use Rattle.hub_story.specs.Told.{told}
 use Rattle.hub_story.specs.declared.window.Window.{Window}
-use Rattle.hub_story_text.specs.StoryText.{story_text}
+use Rattle.hub_story_text.specs.StoryText.{painted_text}
 use Rattle.hub_picture.specs.declared.drawing.Drawing.{Drawing}
 use Rattle.hub_picture.specs.Drawings.{IsDrawingOf}
 use Rattle.hub_picture.specs.Svg.Page.{svg_text}
@@ -34,7 +34,7 @@ pub record IsPicture (w : Window) (given : JournalView) (text : List ℕ) : Type
 
 -- the bytes are these steps in that form
 abbrev pub IsIn : Form → Window → JournalView → List ℕ → Type 0
-IsIn form.Text w given text = text ≡ story_text w given.entries (told given.head given.entries)
+IsIn (form.Text paint) w given text = text ≡ painted_text paint w given.entries (told given.head given.entries)
 IsIn form.Picture w given text = IsPicture w given text
 IsIn form.Mermaid w given text = text ≡ mermaid_text w given.head.procs given.entries (told given.head given.entries)
 IsIn form.Trace w given text = text ≡ trace_text given.head.procs given.entries (told given.head given.entries)

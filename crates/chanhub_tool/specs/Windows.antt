@@ -12,7 +12,7 @@ use Rattle.chanhub_tool.specs.declared.fault.StoryFault.TheVariants.{Backward, O
 
 -- a journal of so many steps is not shown whole
 abbrev pub too_long : Form → ℕ → Bool
-too_long Text count = false
+too_long (Text paint) count = false
 too_long Picture count = nat_lt MOST_DRAWN count
 too_long Mermaid count = false
 too_long Trace count = false
@@ -20,7 +20,7 @@ too_long Page count = false
 
 -- so many steps are never shown in this form
 abbrev pub too_many : Form → ℕ → Bool
-too_many Text count = false
+too_many (Text paint) count = false
 too_many Picture count = false
 too_many Mermaid count = nat_lt MOST_IN_DIAGRAM count
 too_many Trace count = false

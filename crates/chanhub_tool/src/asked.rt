@@ -5,12 +5,13 @@ ghost use Rattle.chanhub_tool.specs.Windows.{fitting, shown_of, too_long, too_ma
 
 use crate::fault::StoryFault;
 use hub_story::Window;
+use hub_story_text::Paint;
 
 /// In which form a journal is explained.
 #[derive(Clone, Copy)]
 pub enum Form {
-    /// As text.
-    Text,
+    /// As text, shown so.
+    Text(Paint),
     /// As a picture.
     Picture,
     /// As a sequence diagram for Mermaid.
@@ -56,7 +57,7 @@ fn too_long(form: Form, count: usize) -> bool
 {
     match form {
         Form::Picture => count > MOST_DRAWN,
-        Form::Text | Form::Mermaid | Form::Trace | Form::Page => false,
+        Form::Text(_) | Form::Mermaid | Form::Trace | Form::Page => false,
     }
 }
 
@@ -66,7 +67,7 @@ fn too_many(form: Form, count: u32) -> bool
 {
     match form {
         Form::Mermaid => count > MOST_IN_DIAGRAM,
-        Form::Text | Form::Picture | Form::Trace | Form::Page => false,
+        Form::Text(_) | Form::Picture | Form::Trace | Form::Page => false,
     }
 }
 

@@ -22,13 +22,14 @@ pub(crate) use picture::picture_of;
 use serve::serve_streams;
 use std::alloc::{AllocError, Global};
 pub(crate) use story::story_of_steps;
+use story::{Telling, read_telling, tell_story};
 pub(crate) use trace::trace_of;
 
 /// What the program is asked to do.
 #[derive(Drop)]
 pub(crate) enum Command<'a> {
     /// `story`: to tell a journal as text.
-    Story(Given<'a>),
+    Story(Telling<'a>),
     /// `picture`: to draw it.
     Picture(Given<'a>),
     /// `mermaid`: to write it as a sequence diagram.
@@ -86,7 +87,7 @@ pub(crate) fn command_of<'a>(
         return Ok(None);
     };
     match name {
-        "story" => Ok(read_given(found).map(Command::Story)),
+        "story" => Ok(read_telling(found).map(Command::Story)),
         "picture" => Ok(read_given(found).map(Command::Picture)),
         "mermaid" => Ok(read_given(found).map(Command::Mermaid)),
         "trace" => Ok(Some(Command::Trace(read_whole(found)))),
@@ -101,7 +102,7 @@ pub(crate) fn command_of<'a>(
 /// Does what is asked, and answers the status.
 pub(crate) fn carry_out<X: Sink>(rt: &HostRuntime, command: Command<'_>, errors: &mut X) -> u8 {
     match command {
-        Command::Story(given) => explain_given(rt, Form::Text, given, errors),
+        Command::Story(telling) => tell_story(rt, telling, errors),
         Command::Picture(given) => explain_given(rt, Form::Picture, given, errors),
         Command::Mermaid(given) => explain_given(rt, Form::Mermaid, given, errors),
         Command::Trace(given) => explain_given(rt, Form::Trace, given, errors),

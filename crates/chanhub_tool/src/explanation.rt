@@ -34,7 +34,7 @@ fn explanation(alloc: Global, asked: Asked, bytes: Vec<u8>) -> Result<PackedText
     let journal = journal_of(alloc, bytes)?;
     let window = window_of(asked, journal.entries().len())?;
     match asked.form {
-        Form::Text => Ok(story_of_steps(alloc, &journal, window)?),
+        Form::Text(paint) => Ok(story_of_steps(alloc, &journal, window, paint)?),
         Form::Picture => Ok(picture_of(alloc, &journal, window)?),
         Form::Mermaid => Ok(diagram_of(alloc, &journal, window)?),
         Form::Trace => Ok(trace_of(alloc, &journal)?),

@@ -18,7 +18,8 @@ use Rattle.hub_story.specs.declared.window.Window.{Window}
 use Rattle.hub_story_text.specs.LastMoves.{AreLast, last_sender, last_receiver, mover_at}
 use Rattle.hub_story_text.specs.Leavers.{leavers}
 use Rattle.hub_story_text.specs.StoryText.{came_by, stall_heading, steps_text, step_text, who_waits}
-use Rattle.hub_story_text.specs.LineText.{told_line}
+use Rattle.hub_story_text.specs.declared.paint.Paint.{Paint}
+use Rattle.hub_story_text.specs.Paint.{painted_line}
 use Rattle.hub_story_text.specs.WaiterText.{case_words, left_words, port_words, waiter_words, waiters_words, who_words}
 use Rattle.hub_story.specs.Windows.{has}
 use Rattle.hub_story_text.proofs.Groups.{stalled-came}
@@ -52,46 +53,46 @@ waiters-told nobody heading es until moves so ts =
     so.sent so.received (leavers es until) ts
 
 -- ---- one step more
-step-first : (w : Window) (es : List Entry) (all : List Told) (place : ℕ) (rest : List Entry) (d : Entry) → place < length rest →
-    steps_text w es all place (drop place rest)
-    ≡ (if has w place then step_text es all place (get_or rest place d) else []) ++ steps_text w es all (place + 1) (drop (place + 1) rest)
-step-first w es all place rest d below =
-    ap (steps_text w es all place) (drop-cons rest place d below)
-    ∙ ap (λ k. (if has w place then step_text es all place (get_or rest place d) else []) ++ steps_text w es all (place + 1) (drop k rest))
+step-first : (paint : Paint) (w : Window) (es : List Entry) (all : List Told) (place : ℕ) (rest : List Entry) (d : Entry) → place < length rest →
+    steps_text paint w es all place (drop place rest)
+    ≡ (if has w place then step_text paint es all place (get_or rest place d) else []) ++ steps_text paint w es all (place + 1) (drop (place + 1) rest)
+step-first paint w es all place rest d below =
+    ap (steps_text paint w es all place) (drop-cons rest place d below)
+    ∙ ap (λ k. (if has w place then step_text paint es all place (get_or rest place d) else []) ++ steps_text paint w es all (place + 1) (drop k rest))
     (sym (add-one place))
 
-pub step-shown : (w : Window) (es : List Entry) (all : List Told) (place : ℕ) (d : Entry) (was now text : List ℕ) → place < length es →
-    has w place ≡ true → was ++ steps_text w es all place (drop place es) ≡ text → now ≡ was ++ step_text es all place (get_or es place d) →
-    now ++ steps_text w es all (place + 1) (drop (place + 1) es) ≡ text
-step-shown w es all place d was now text below shown so is =
-    ap (λ l. l ++ steps_text w es all (place + 1) (drop (place + 1) es)) is
-    ∙ append_assoc was (step_text es all place (get_or es place d)) (steps_text w es all (place + 1) (drop (place + 1) es))
+pub step-shown : (paint : Paint) (w : Window) (es : List Entry) (all : List Told) (place : ℕ) (d : Entry) (was now text : List ℕ) → place < length es →
+    has w place ≡ true → was ++ steps_text paint w es all place (drop place es) ≡ text → now ≡ was ++ step_text paint es all place (get_or es place d) →
+    now ++ steps_text paint w es all (place + 1) (drop (place + 1) es) ≡ text
+step-shown paint w es all place d was now text below shown so is =
+    ap (λ l. l ++ steps_text paint w es all (place + 1) (drop (place + 1) es)) is
+    ∙ append_assoc was (step_text paint es all place (get_or es place d)) (steps_text paint w es all (place + 1) (drop (place + 1) es))
     ∙ ap (λ l. was ++ l)
-    (ap (λ b. (if b then step_text es all place (get_or es place d) else []) ++ steps_text w es all (place + 1) (drop (place + 1) es)) (sym shown)
-    ∙ sym (step-first w es all place es d below)) ∙ so
+    (ap (λ b. (if b then step_text paint es all place (get_or es place d) else []) ++ steps_text paint w es all (place + 1) (drop (place + 1) es)) (sym shown)
+    ∙ sym (step-first paint w es all place es d below)) ∙ so
 
-pub step-hidden : (w : Window) (es : List Entry) (all : List Told) (place : ℕ) (d : Entry) (was text : List ℕ) → place < length es →
-    has w place ≡ false → was ++ steps_text w es all place (drop place es) ≡ text →
-    was ++ steps_text w es all (place + 1) (drop (place + 1) es) ≡ text
-step-hidden w es all place d was text below hidden so =
+pub step-hidden : (paint : Paint) (w : Window) (es : List Entry) (all : List Told) (place : ℕ) (d : Entry) (was text : List ℕ) → place < length es →
+    has w place ≡ false → was ++ steps_text paint w es all place (drop place es) ≡ text →
+    was ++ steps_text paint w es all (place + 1) (drop (place + 1) es) ≡ text
+step-hidden paint w es all place d was text below hidden so =
     ap (λ l. was ++ l)
-    (ap (λ b. (if b then step_text es all place (get_or es place d) else []) ++ steps_text w es all (place + 1) (drop (place + 1) es)) (sym hidden)
-    ∙ sym (step-first w es all place es d below)) ∙ so
+    (ap (λ b. (if b then step_text paint es all place (get_or es place d) else []) ++ steps_text paint w es all (place + 1) (drop (place + 1) es)) (sym hidden)
+    ∙ sym (step-first paint w es all place es d below)) ∙ so
 
 -- ---- the text of one step, by what is looked up
 pub inside : {A : Type 0} {x y : A} → Some x ≡ Some y → x ≡ y
 inside h = cc
 
-pub step-is : (es : List Entry) (all : List Told) (place : ℕ) (e : Entry) (came : List Told) (moves : LastMoves) → came ≡ came_by place all →
+pub step-is : (paint : Paint) (es : List Entry) (all : List Told) (place : ℕ) (e : Entry) (came : List Told) (moves : LastMoves) → came ≡ came_by place all →
     AreLast es (told_by (place + 1) all) moves →
-    told_line es all place e came
+    painted_line paint es all place e came
     ++ waiters_words [] stall_heading es (mover_at moves.sent.items) (mover_at moves.received.items) moves.left.items
     (filter (λ t. is_stalled t.event.what) came)
-    ≡ step_text es all place e
-step-is es all place e came moves same last =
-    ap (λ l. told_line es all place e l
+    ≡ step_text paint es all place e
+step-is paint es all place e came moves same last =
+    ap (λ l. painted_line paint es all place e l
     ++ waiters_words [] stall_heading es (mover_at moves.sent.items) (mover_at moves.received.items) moves.left.items
     (filter (λ t. is_stalled t.event.what) l)) same
-    ∙ ap (λ l. told_line es all place e (came_by place all) ++ l)
+    ∙ ap (λ l. painted_line paint es all place e (came_by place all) ++ l)
     (waiters-told [] stall_heading es (told_by (place + 1) all) moves last (filter (λ t. is_stalled t.event.what) (came_by place all))
     ∙ ap (who_waits [] stall_heading es (told_by (place + 1) all)) (stalled-came place all))

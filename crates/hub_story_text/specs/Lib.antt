@@ -8,6 +8,7 @@ pub mod LastMoves
 pub mod PortMoves
 pub mod EndsText
 pub mod LineText
+pub mod Paint
 pub mod WaiterText
 pub mod Closers
 pub mod Fullest

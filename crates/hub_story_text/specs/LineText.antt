@@ -68,14 +68,18 @@ with_end es place e partner before (Some t) =
     (with_cell WAITED (with_cell ANSWER before (answer_words (cases_or e.step []) t.event.what)) (waited_words place t))
     (value_words es (cases_or e.step []) partner t.event.what)
 
--- the line of the entry at this place, by how it ended, by the other entry of its value's passage, and by what came by its step
-abbrev pub line : List Entry → ℕ → Entry → Option Told → Option ℕ → List Told → List ℕ
-line es place e end partner came =
+-- the line of the entry at this place, by how it ended, by the other entry of its value's passage, and by what came by its step;
+-- without the newline
+abbrev pub cells : List Entry → ℕ → Entry → Option Told → Option ℕ → List Told → List ℕ
+cells es place e end partner came =
     with_ends Stalls place came
     (with_ends Cancels place came
     (with_ends Frees place came (with_end es place e partner (with_cell ASKS (right STEP_WIDTH (place + 1)) (asks e)) end)))
-    ++ codes "\n"
 
 -- so by all that is told
+abbrev pub told_cells : List Entry → List Told → ℕ → Entry → List Told → List ℕ
+told_cells es all place e came = cells es place e (end_of all place) (partner_of es all place) came
+
+-- the whole line
 abbrev pub told_line : List Entry → List Told → ℕ → Entry → List Told → List ℕ
-told_line es all place e came = line es place e (end_of all place) (partner_of es all place) came
+told_line es all place e came = told_cells es all place e came ++ codes "\n"

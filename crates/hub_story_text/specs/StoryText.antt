@@ -8,9 +8,11 @@ use Rattle.hub_story.specs.Levels.{told_by}
 use Rattle.hub_story.specs.Waiting.{stalled_by, still_waiting}
 use Rattle.hub_story.specs.declared.window.Window.{Window}
 use Rattle.hub_story.specs.Windows.{has}
+use Rattle.hub_story_text.specs.declared.paint.Paint.{Paint}
+use Rattle.hub_story_text.specs.declared.paint.Paint.TheVariants.{Plain}
 use Rattle.hub_story_text.specs.LastMoves.{last_sender, last_receiver}
 use Rattle.hub_story_text.specs.Leavers.{leavers}
-use Rattle.hub_story_text.specs.LineText.{told_line}
+use Rattle.hub_story_text.specs.Paint.{painted_line}
 use Rattle.hub_story_text.specs.PortText.{made_line}
 use Rattle.hub_story_text.specs.WaiterText.{waiters_words}
 use Rattle.hub_story_text.specs.Waits.{waits_text}
@@ -28,16 +30,16 @@ abbrev pub stall_heading : List ℕ
 stall_heading = codes "        stall: everyone who is left waits\n"
 
 -- the line of a step, and those whom it stalled
-abbrev pub step_text : List Entry → List Told → ℕ → Entry → List ℕ
-step_text es all place e =
-    told_line es all place e (came_by place all)
+abbrev pub step_text : Paint → List Entry → List Told → ℕ → Entry → List ℕ
+step_text paint es all place e =
+    painted_line paint es all place e (came_by place all)
     ++ who_waits [] stall_heading es (told_by (place + 1) all) (stalled_by all place)
 
 -- so of these entries, the first of which stands at this place, where the window has them
-abbrev pub steps_text : Window → List Entry → List Told → ℕ → List Entry → List ℕ
-steps_text w es all place [] = []
-steps_text w es all place (e ∷ rest) =
-    (if has w place then step_text es all place e else []) ++ steps_text w es all (place + 1) rest
+abbrev pub steps_text : Paint → Window → List Entry → List Told → ℕ → List Entry → List ℕ
+steps_text paint w es all place [] = []
+steps_text paint w es all place (e ∷ rest) =
+    (if has w place then step_text paint es all place e else []) ++ steps_text paint w es all (place + 1) rest
 
 abbrev pub heading : List ℕ
 heading = codes "   step  who asks what                  answer            waited              partner or reason     what else it does\n"
@@ -52,8 +54,12 @@ end_nobody = codes "in the end no call waits\n"
 abbrev pub ports_text : List Entry → List Told → List ℕ
 ports_text es all = flat_map (λ t. made_line es all t t.event.what) all
 
--- the whole
-abbrev pub story_text : Window → List Entry → List Told → List ℕ
-story_text w es all =
-    heading ++ steps_text w es all 0 es ++ ports_text es all ++ waits_text es all
+-- the whole, painted so
+abbrev pub painted_text : Paint → Window → List Entry → List Told → List ℕ
+painted_text paint w es all =
+    heading ++ steps_text paint w es all 0 es ++ ports_text es all ++ waits_text es all
     ++ who_waits end_nobody end_heading es (told_by (length es) all) (still_waiting all)
+
+-- without colours
+abbrev pub story_text : Window → List Entry → List Told → List ℕ
+story_text w es all = painted_text Plain w es all

@@ -3,10 +3,12 @@
 ghost use Rattle.std.specs.Prelude.{◌≡◌, ◌<◌, ◌++◌, length, slice_get, OnOk, Some};
 ghost use Rattle.hub_story.specs.Told.{end_of};
 ghost use Rattle.hub_story_text.specs.Explained.{IsExplained, entries_of, told_of};
-ghost use Rattle.hub_story_text.specs.LineText.{told_line};
+ghost use Rattle.hub_story_text.specs.LineText.{told_cells, told_line};
+ghost use Rattle.hub_story_text.specs.Paint.{coloured_line, painted_line, shown_colour};
 ghost use Rattle.hub_story_text.specs.Partners.{partner_of};
 
-use crate::lines::put_line;
+use crate::lines::put_cells;
+use crate::paint::{Colour, NO_COLOUR, Paint, colour_of};
 use hub_base::{EntryRef, NoMemory};
 use hub_core::ShortJournal;
 use hub_story::{ShortStory, Told};
@@ -20,6 +22,8 @@ pub(crate) struct Explained<'a> {
     pub(crate) story: &'a ShortStory,
     /// The other entries.
     pub(crate) partners: &'a [Option<u32>],
+    /// How the lines of steps are shown.
+    pub(crate) paint: Paint,
 }
 
 /// What stands at this place.
@@ -50,6 +54,32 @@ impl<'a> Explained<'a> {
     }
 }
 
+/// Appends the cells of the entry's line at this place, and in them what came by its step.
+fn put_told_cells(
+    out: &mut Vec<u8>,
+    explained: &Explained,
+    place: u32,
+    entry: &EntryRef<'_>,
+    came: &[Told],
+) -> Result<(), NoMemory>
+    requires explained { IsExplained explained.now }
+    requires within { place < length (entries_of explained.now) }
+    ensures { OnOk result (out.new.items ≡
+        out.old.items ++ told_cells (entries_of explained.now) (told_of explained.now) place entry.now came.now) }
+{
+    let partner = explained.partner(place as usize);
+    let end = explained.end(place as usize);
+    put_cells(
+        out,
+        explained.journal.entries(),
+        place,
+        entry,
+        partner,
+        end,
+        came,
+    )
+}
+
 /// Appends the line of the entry at this place, and in it what came by its step.
 pub(crate) fn put_told_line(
     out: &mut Vec<u8>,
@@ -63,15 +93,58 @@ pub(crate) fn put_told_line(
     ensures { OnOk result (out.new.items ≡
         out.old.items ++ told_line (entries_of explained.now) (told_of explained.now) place entry.now came.now) }
 {
-    let partner = explained.partner(place as usize);
-    let end = explained.end(place as usize);
-    put_line(
-        out,
-        explained.journal.entries(),
-        place,
-        entry,
-        partner,
-        end,
-        came,
-    )
+    put_told_cells(out, explained, place, entry, came)?;
+    out.extend_from_slice(b"\n")?;
+    Ok(())
+}
+
+/// Appends that line in a colour.
+fn put_coloured_line(
+    out: &mut Vec<u8>,
+    colour: Colour,
+    explained: &Explained,
+    place: u32,
+    entry: &EntryRef<'_>,
+    came: &[Told],
+) -> Result<(), NoMemory>
+    requires explained { IsExplained explained.now }
+    requires within { place < length (entries_of explained.now) }
+    ensures { OnOk result (out.new.items ≡ out.old.items
+        ++ coloured_line (Some colour) (told_cells (entries_of explained.now) (told_of explained.now) place entry.now came.now)) }
+{
+    out.extend_from_slice(colour.text())?;
+    put_told_cells(out, explained, place, entry, came)?;
+    out.extend_from_slice(NO_COLOUR)?;
+    Ok(())
+}
+
+/// The colour in which the line of the entry at this place is shown, if any.
+fn shown_colour(explained: &Explained, place: u32) -> Option<Colour>
+    requires explained { IsExplained explained.now }
+    requires within { place < length (entries_of explained.now) }
+    ensures { result ≡ shown_colour explained.now.paint (end_of (told_of explained.now) place) }
+{
+    match explained.paint {
+        Paint::Plain => None,
+        Paint::Colours => colour_of(explained.end(place as usize)),
+    }
+}
+
+/// Appends the line of the entry at this place as it is shown, and in it what came by its step.
+pub(crate) fn put_painted_line(
+    out: &mut Vec<u8>,
+    explained: &Explained,
+    place: u32,
+    entry: &EntryRef<'_>,
+    came: &[Told],
+) -> Result<(), NoMemory>
+    requires explained { IsExplained explained.now }
+    requires within { place < length (entries_of explained.now) }
+    ensures { OnOk result (out.new.items ≡ out.old.items
+        ++ painted_line explained.now.paint (entries_of explained.now) (told_of explained.now) place entry.now came.now) }
+{
+    match shown_colour(explained, place) {
+        Some(colour) => put_coloured_line(out, colour, explained, place, entry, came),
+        None => put_told_line(out, explained, place, entry, came),
+    }
 }

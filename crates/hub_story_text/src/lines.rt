@@ -4,7 +4,7 @@ ghost use Rattle.std.specs.Prelude.{◌≡◌, ◌+◌, ◌-◌, ◌++◌, codes
 ghost use Rattle.hub_story_text.specs.AnswerText.{answer_words};
 ghost use Rattle.hub_story_text.specs.Cells.{with_cell};
 ghost use Rattle.hub_story_text.specs.Writing.{LineBecomes};
-ghost use Rattle.hub_story_text.specs.LineText.{asks, got_words, line, moved_words, sent_words};
+ghost use Rattle.hub_story_text.specs.LineText.{asks, cells, got_words, moved_words, sent_words};
 ghost use Rattle.hub_story_text.specs.LineText.{step_words, value_words, waited_words, with_end};
 
 use crate::answers::{fault_words, put_answer};
@@ -221,8 +221,8 @@ fn put_end(
     Ok(())
 }
 
-/// Appends the line of the entry at this place.
-pub(crate) fn put_line(
+/// Appends the line of the entry at this place, without the newline.
+pub(crate) fn put_cells(
     out: &mut Vec<u8>,
     entries: &ShortEntries,
     place: u32,
@@ -231,13 +231,12 @@ pub(crate) fn put_line(
     end: Option<Told>,
     came: &[Told],
 ) -> Result<(), NoMemory>
-    ensures { OnOk result (out.new.items ≡ out.old.items ++ line entries.now place entry.now end partner came.now) }
+    ensures { OnOk result (out.new.items ≡ out.old.items ++ cells entries.now place entry.now end partner came.now) }
 {
     let start = out.len();
     put_right(out, number_of(place))?;
     asks_cell(out, start, entry)?;
     put_end(out, start, entries, place, entry, partner, end)?;
     ends_cells(out, start, place, came)?;
-    out.extend_from_slice(b"\n")?;
     Ok(())
 }

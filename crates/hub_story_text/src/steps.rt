@@ -10,7 +10,7 @@ ghost use Rattle.hub_story_text.specs.StoryText.{came_by, stall_heading, steps_t
 ghost use Rattle.hub_story_text.specs.WaiterText.{waiters_words};
 
 use crate::Window;
-use crate::explained::{Explained, put_told_line};
+use crate::explained::{Explained, put_painted_line};
 use crate::last_moves::LastMoves;
 use crate::packed_text::PackedText;
 use crate::waiters::put_waiters;
@@ -80,7 +80,7 @@ pub(crate) fn put_steps(
     requires none { AreLast (entries_of explained.now) [] moves.old }
     requires whole { IsWhole moves.old }
     ensures text { OnOk result (out.new.items ≡ out.old.items
-        ++ steps_text window (entries_of explained.now) (told_of explained.now) 0 (entries_of explained.now)) }
+        ++ steps_text explained.now.paint window (entries_of explained.now) (told_of explained.now) 0 (entries_of explained.now)) }
     ensures last { OnOk result (AreLast (entries_of explained.now)
         (told_by (length (entries_of explained.now)) (told_of explained.now)) moves.new) }
 {
@@ -94,7 +94,7 @@ pub(crate) fn put_steps(
         let entry = entries.entry(place, &mut one);
         if window.has(place as u32) {
             line.clear();
-            put_told_line(&mut line, explained, place as u32, &entry, came)?;
+            put_painted_line(&mut line, explained, place as u32, &entry, came)?;
             put_stalled(&mut line, explained, moves, came)?;
             out.push(&line)?;
         }

@@ -5,12 +5,13 @@ ghost use Rattle.hub_story.specs.Stories.{IsShortStoryOf};
 ghost use Rattle.hub_story_text.specs.Explained.{IsExplained, entries_of, told_of};
 ghost use Rattle.hub_story_text.specs.LastMoves.{AreLast, IsWhole};
 ghost use Rattle.hub_story_text.specs.PortMoves.{AreMoves};
-ghost use Rattle.hub_story_text.specs.StoryText.{story_text};
+ghost use Rattle.hub_story_text.specs.StoryText.{painted_text, story_text};
 
 use crate::Window;
 use crate::explained::Explained;
 use crate::last_moves::LastMoves;
 use crate::packed_text::PackedText;
+use crate::paint::Paint;
 use crate::partners::partners_of;
 use crate::port_moves::PortMoves;
 use crate::ports::put_ports;
@@ -42,7 +43,7 @@ fn put_story(
     requires none { AreLast (entries_of explained.now) [] last.old }
     requires whole { IsWhole last.old }
     ensures { OnOk result (out.new.items ≡
-        out.old.items ++ story_text window (entries_of explained.now) (told_of explained.now)) }
+        out.old.items ++ painted_text explained.now.paint window (entries_of explained.now) (told_of explained.now)) }
 {
     out.push(HEADING)?;
     put_steps(out, last, explained, window)?;
@@ -61,7 +62,33 @@ fn put_story(
     Ok(())
 }
 
-/// Appends the story of a journal, as `story_text` has it.
+/// Appends the story of a journal, with the lines of steps shown so.
+fn push_painted(
+    out: &mut PackedText,
+    alloc: Global,
+    journal: &ShortJournal,
+    story: &ShortStory,
+    window: Window,
+    paint: Paint,
+) -> Result<(), NoMemory>
+    requires story { IsShortStoryOf journal.now story.now }
+    requires few { length journal.now.entries < 2 ^ 32 - 1 }
+    ensures { OnOk result (
+        out.new.items ≡ out.old.items ++ painted_text paint window journal.now.entries story.now.told.items) }
+{
+    let moves = PortMoves::of(alloc, journal.entries(), &story.told)?;
+    let partners = partners_of(alloc, journal, story, &moves)?;
+    let explained = Explained {
+        journal,
+        story,
+        partners: &partners,
+        paint,
+    };
+    let mut last = LastMoves::new(alloc)?;
+    put_story(out, &mut last, &explained, &moves, window)
+}
+
+/// Appends the story of a journal, without colours.
 pub fn push_story(
     out: &mut PackedText,
     alloc: Global,
@@ -74,31 +101,24 @@ pub fn push_story(
     ensures { OnOk result (
         out.new.items ≡ out.old.items ++ story_text window journal.now.entries story.now.told.items) }
 {
-    let moves = PortMoves::of(alloc, journal.entries(), &story.told)?;
-    let partners = partners_of(alloc, journal, story, &moves)?;
-    let explained = Explained {
-        journal,
-        story,
-        partners: &partners,
-    };
-    let mut last = LastMoves::new(alloc)?;
-    put_story(out, &mut last, &explained, &moves, window)
+    push_painted(out, alloc, journal, story, window, Paint::Plain)
 }
 
 /// The story of a journal as text: a line for each step that the window has, with those whom it stalled below it; then a line for
-/// each port that was made, which calls waited longest, and who waits in the end. Steps and the numbers of entries are counted from 1. `Err` where
-/// memory was refused.
+/// each port that was made, which calls waited longest, and who waits in the end. Steps and the numbers of entries are counted from 1.
+/// The lines of steps are in colours if these are asked for. `Err` where memory was refused.
 pub fn story_text(
     alloc: Global,
     journal: &ShortJournal,
     story: &ShortStory,
     window: Window,
+    paint: Paint,
 ) -> Result<PackedText, NoMemory>
     requires story { IsShortStoryOf journal.now story.now }
     requires few { length journal.now.entries < 2 ^ 32 - 1 }
-    ensures { IfOk result (λ text. text.items ≡ story_text window journal.now.entries story.now.told.items) }
+    ensures { IfOk result (λ text. text.items ≡ painted_text paint window journal.now.entries story.now.told.items) }
 {
     let mut out = PackedText::new(alloc);
-    push_story(&mut out, alloc, journal, story, window)?;
+    push_painted(&mut out, alloc, journal, story, window, paint)?;
     Ok(out)
 }

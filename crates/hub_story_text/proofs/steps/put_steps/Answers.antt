@@ -9,7 +9,7 @@ use Rattle.hub_story_text.proofs.Chains.{line-more}
 use Rattle.hub_story_text.proofs.Groups.{first-cut, next-cut, none-before}
 use Rattle.hub_story_text.proofs.StepTexts.{step-is, step-shown, step-hidden}
 use Rattle.hub_story_text.proofs.steps.put_steps.Goals as goal
-use Rattle.hub_story_text.proofs.steps.put_steps.Goals.{then-has+in_ok-put_told_line+in_ok-put_stalled+in_ok-push, else-has}
+use Rattle.hub_story_text.proofs.steps.put_steps.Goals.{then-has+in_ok-put_painted_line+in_ok-put_stalled+in_ok-push, else-has}
 
 pub loop-place-init : goal.loop-place-init
 loop-place-init c =
@@ -34,18 +34,18 @@ loop-place-preserved c =
     let last = subst (λ l. AreLast es l c.note_all.new.self) next.told (noted _ so.last) in
     let below : place < length es = omega (arith, c.loop-place-test.true, ap length c.entries-entries.ensures) in
     elim c.if-has.branch [
-      | then-has+in_ok-put_told_line+in_ok-put_stalled+in_ok-push w ↦
+      | then-has+in_ok-put_painted_line+in_ok-put_stalled+in_ok-push w ↦
           rw w.out-is (record {
             cut = next.cut;
             last = last;
             whole = c.note_all.ensures.whole;
             text =
-                step-shown c.args.window es told place c.entry-entry.result out w.push.new.self.items _ below
+                step-shown c.args.explained.now.paint c.args.window es told place c.entry-entry.result out w.push.new.self.items _ below
                 (sym c.has.ensures ∙ w.if-has.true) so.text
-                (line-more out w.push.new.self.items _ w.put_stalled.new.out.items w.put_told_line.new.out.items w.clear.new.self.items _ _
-                w.in_ok-push.ensures w.deref.ensures.value w.in_ok-put_stalled.ensures w.in_ok-put_told_line.ensures w.clear.ensures.items
-                ∙ ap (λ l. out ++ l) (step-is es told place c.entry-entry.result _ c.note_all.new.self next.came last)
-                ∙ ap (λ e. out ++ step_text es told place e)
+                (line-more out w.push.new.self.items _ w.put_stalled.new.out.items w.put_painted_line.new.out.items w.clear.new.self.items _ _
+                w.in_ok-push.ensures w.deref.ensures.value w.in_ok-put_stalled.ensures w.in_ok-put_painted_line.ensures w.clear.ensures.items
+                ∙ ap (λ l. out ++ l) (step-is c.args.explained.now.paint es told place c.entry-entry.result _ c.note_all.new.self next.came last)
+                ∙ ap (λ e. out ++ step_text c.args.explained.now.paint es told place e)
                 (sym (get_or_from_slice_get es place c.entry-entry.result c.entry-entry.result (rw c.entries-entries.ensures at c.entry-entry.ensures))));
           })
       | else-has w ↦
@@ -53,7 +53,7 @@ loop-place-preserved c =
             cut = next.cut;
             last = last;
             whole = c.note_all.ensures.whole;
-            text = step-hidden c.args.window es told place c.entry-entry.result out _ below (sym c.has.ensures ∙ w.if-has.false) so.text;
+            text = step-hidden c.args.explained.now.paint c.args.window es told place c.entry-entry.result out _ below (sym c.has.ensures ∙ w.if-has.false) so.text;
           })
     ]
 
@@ -70,5 +70,5 @@ returns-clause-text c =
     let place = c.loop-place.place in
     let out = c.loop-place.out.items in
     let past : length es ≤ place = omega (arith, c.loop-place-test.false, ap length c.entries-entries.ensures) in
-    sym (append-nil out) ∙ ap (λ l. out ++ steps_text c.args.window es (told_of c.args.explained.now) place l) (sym (drop_all place es past))
+    sym (append-nil out) ∙ ap (λ l. out ++ steps_text c.args.explained.now.paint c.args.window es (told_of c.args.explained.now) place l) (sym (drop_all place es past))
     ∙ c.loop-place.invariant.text

@@ -29,6 +29,6 @@ returns c =
       c.in_ok-put_steps.ensures.text,
       c.in_ok-push.ensures,
     )
-    (five-behind c.args.out.now.items heading (steps_text c.args.window es told 0 es) (ports_text es told) (waits_text es told) _
-    ∙ ap (λ l. c.args.out.now.items ++ (heading ++ steps_text c.args.window es told 0 es ++ ports_text es told ++ waits_text es told ++ l))
+    (five-behind c.args.out.now.items heading (steps_text c.args.explained.now.paint c.args.window es told 0 es) (ports_text es told) (waits_text es told) _
+    ∙ ap (λ l. c.args.out.now.items ++ (heading ++ steps_text c.args.explained.now.paint c.args.window es told 0 es ++ ports_text es told ++ waits_text es told ++ l))
     (waiters-told end_nobody end_heading es (told_by (length es) told) c.put_steps.new.moves c.in_ok-put_steps.ensures.last _))

@@ -1,6 +1,5 @@
-use Rattle.std.proofs.Common.{◌≡◌, arith, codes, length}
-use Rattle.hub_story_text.proofs.Chains.{one-more}
-use Rattle.hub_story_text.proofs.lines.put_line.Goals as goal
+use Rattle.std.proofs.Common.{◌≡◌, arith, length}
+use Rattle.hub_story_text.proofs.lines.put_cells.Goals as goal
 
 pub returns : goal.returns
 returns c =
@@ -8,5 +7,4 @@ returns c =
     let at : length before ≡ c.len-start.result = omega (arith, c.len-start.ensures, c.args.out.now.ok) in
     let number = rw c.number_of.ensures at c.in_ok-put_right.ensures in
     let end = c.in_ok-put_end.ensures before _ at (c.in_ok-asks_cell.ensures before _ at number) in
-    let written = c.in_ok-ends_cells.ensures before _ at end in
-    one-more before _ _ _ (codes "\n") written c.in_ok-extend_from_slice.ensures.items
+    c.in_ok-ends_cells.ensures before _ at end

@@ -53,7 +53,9 @@ loop-place-preserved c =
             cut = next.cut;
             last = last;
             whole = c.note_all.ensures.whole;
-            text = step-hidden c.args.explained.now.paint c.args.window es told place c.entry-entry.result out _ below (sym c.has.ensures ∙ w.if-has.false) so.text;
+            text =
+                step-hidden c.args.explained.now.paint c.args.window es told place c.entry-entry.result out _ below
+                (sym c.has.ensures ∙ w.if-has.false) so.text;
           })
     ]
 
@@ -70,5 +72,6 @@ returns-clause-text c =
     let place = c.loop-place.place in
     let out = c.loop-place.out.items in
     let past : length es ≤ place = omega (arith, c.loop-place-test.false, ap length c.entries-entries.ensures) in
-    sym (append-nil out) ∙ ap (λ l. out ++ steps_text c.args.explained.now.paint c.args.window es (told_of c.args.explained.now) place l) (sym (drop_all place es past))
+    sym (append-nil out)
+    ∙ ap (λ l. out ++ steps_text c.args.explained.now.paint c.args.window es (told_of c.args.explained.now) place l) (sym (drop_all place es past))
     ∙ c.loop-place.invariant.text

@@ -18,6 +18,7 @@ pub returns : goal.returns
 returns c =
     let es = entries_of c.args.explained.now in
     let told = told_of c.args.explained.now in
+    let steps = steps_text c.args.explained.now.paint c.args.window es told 0 es in
     let waits = rw (c.entries.ensures, c.deref.ensures.value, c.requires.explained.story.waiting) at c.in_ok-put_waiters.ensures in
     rw (
       c.in_ok-push-2.ensures,
@@ -29,6 +30,6 @@ returns c =
       c.in_ok-put_steps.ensures.text,
       c.in_ok-push.ensures,
     )
-    (five-behind c.args.out.now.items heading (steps_text c.args.explained.now.paint c.args.window es told 0 es) (ports_text es told) (waits_text es told) _
-    ∙ ap (λ l. c.args.out.now.items ++ (heading ++ steps_text c.args.explained.now.paint c.args.window es told 0 es ++ ports_text es told ++ waits_text es told ++ l))
+    (five-behind c.args.out.now.items heading steps (ports_text es told) (waits_text es told) _
+    ∙ ap (λ l. c.args.out.now.items ++ (heading ++ steps ++ ports_text es told ++ waits_text es told ++ l))
     (waiters-told end_nobody end_heading es (told_by (length es) told) c.put_steps.new.moves c.in_ok-put_steps.ensures.last _))

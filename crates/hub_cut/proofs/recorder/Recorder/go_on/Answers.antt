@@ -22,7 +22,8 @@ invariant_of-self-then-not-is_exit g c =
     let room : begins old e.step ≡ false = subst (λ (r : RecorderView). begins r e.step ≡ false) (sym c.self.view_is) c.requires.room in
     let is = sym c.is_exit.ensures ∙ c.if-not-is_exit.true in
     let counts = one_counts e old.fresh old.bytes c.most_line-bytes.result is c.most_line-bytes.ensures.most in
-    keeps_next c.self.inside e c.step_heard.new.self c.in_ok-step_heard.ensures.ok.told (old.fresh + 1) (old.bytes + c.most_line-bytes.result) c.head.result.edition
+    let bytes = old.bytes + c.most_line-bytes.result in
+    keeps_next c.self.inside e c.step_heard.new.self c.in_ok-step_heard.ensures.ok.told (old.fresh + 1) bytes c.head.result.edition
     c.self.invariant room c.in_ok-step_heard.ensures.ok.steps counts.0 counts.1 c.most_line-bytes.ensures.fits
     (few_counted e c.most_line-bytes.result c.most_line-bytes.ensures.most c.most_line-bytes.ensures.few)
 
@@ -34,11 +35,12 @@ returns-then-not-is_exit-clause-ok g c =
     let is = sym c.is_exit.ensures ∙ c.if-not-is_exit.true in
     let counts = one_counts e old.fresh old.bytes c.most_line-bytes.result is c.most_line-bytes.ensures.most in
     let next = c.in_ok-step_heard.ensures.ok in
+    let bytes = old.bytes + c.most_line-bytes.result in
     record {
       told = next.told;
       heard = next.heard;
       holds = rw (← c.self.view_is)
-          (goes_next old e next.told c.step_heard.new.self.memory.hub (old.fresh + 1) (old.bytes + c.most_line-bytes.result) room next.steps counts.0 counts.1);
+          (goes_next old e next.told c.step_heard.new.self.memory.hub (old.fresh + 1) bytes room next.steps counts.0 counts.1);
     }
 
 pub invariant_of-self-else-not-is_exit : goal.invariant_of-self-else-not-is_exit

@@ -9,7 +9,7 @@ use crate::counts::count_one;
 use crate::known::Known;
 use crate::lanes::{count_troubles, count_waits, lane_of};
 use crate::past::Past;
-use crate::ports::note_held;
+use crate::ports::{none_held, note_held};
 use hub_base::{MOST_PORTS, Pid};
 use hub_core::ShortEntries;
 use hub_story::Told;
@@ -54,7 +54,7 @@ impl Block {
             asked: vec![in alloc; 0; lanes]?,
             troubles: vec![in alloc; 0; lanes]?,
             waited: vec![in alloc; 0; lanes]?,
-            most: vec![in alloc; 0; ports]?,
+            most: none_held(alloc)?,
             sent: Vec::from_slice(alloc, &past.levels.sent[..ports])?,
             received: Vec::from_slice(alloc, &past.levels.received[..ports])?,
         })

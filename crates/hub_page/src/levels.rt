@@ -1,6 +1,6 @@
 //! How many values each port holds, event by event.
 
-ghost use Rattle.std.specs.Prelude.{◌≡◌, ◌<◌, ◌++◌, List, [], length, IfOk, IfSome, OnOk};
+ghost use Rattle.std.specs.Prelude.{◌≡◌, ◌<◌, ◌-◌, ◌++◌, List, [], length, IfOk, IfSome, OnOk};
 ghost use Rattle.hub_base.specs.Entry.{Entry};
 ghost use Rattle.hub_story.specs.declared.told.Told.{Told};
 ghost use Rattle.hub_page.specs.Levels.{AreLevels, AreNext, IsWhole, count_at, level_of, with_one};
@@ -79,17 +79,33 @@ impl Levels {
     }
 
     /// How many values were sent on the port.
-    pub(crate) fn sent_on(&self, port: Port) -> u64
+    fn sent_on(&self, port: Port) -> u64
         ensures { result ≡ count_at self.now.sent.items port }
     {
         count_at(&self.sent, port.0.into())
     }
 
     /// How many were received from it.
-    pub(crate) fn received_on(&self, port: Port) -> u64
+    fn received_on(&self, port: Port) -> u64
         ensures { result ≡ count_at self.now.received.items port }
     {
         count_at(&self.received, port.0.into())
+    }
+
+    /// How many values were sent on it since that table counted them.
+    pub(crate) fn sent_since(&self, before: &[u64], port: Port) -> u64
+        ensures { result ≡ count_at self.now.sent.items port - count_at before.now port }
+    {
+        let before = count_at(before, port.0.into());
+        self.sent_on(port).saturating_sub(before)
+    }
+
+    /// How many were received from it since that table counted them.
+    pub(crate) fn received_since(&self, before: &[u64], port: Port) -> u64
+        ensures { result ≡ count_at self.now.received.items port - count_at before.now port }
+    {
+        let before = count_at(before, port.0.into());
+        self.received_on(port).saturating_sub(before)
     }
 
     /// How many values the port holds.

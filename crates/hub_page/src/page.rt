@@ -4,7 +4,7 @@ ghost use Rattle.std.specs.Prelude.{◌≡◌, ◌<◌, ◌-◌, ◌^◌, ◌++�
 ghost use Rattle.hub_base.specs.Head.{IsHead};
 ghost use Rattle.hub_story.specs.Stories.{IsShortStoryOf};
 ghost use Rattle.hub_page.specs.Data.{data_text};
-ghost use Rattle.hub_page.specs.Page.{page_text};
+ghost use Rattle.hub_page.specs.Page.{no_steps, page_text};
 
 use crate::data::push_data;
 use crate::known::Known;
@@ -15,8 +15,12 @@ use hub_story::{ShortStory, Window};
 use hub_story_text::{PackedText, all_partners, push_story};
 use std::alloc::Global;
 
-/// No step.
-const NO_STEPS: Window = Window { first: 0, end: 0 };
+/// The window that has no step.
+fn no_steps() -> Window
+    ensures { result ≡ no_steps }
+{
+    Window { first: 0, end: 0 }
+}
 
 /// Appends the data of a journal.
 fn push_known(
@@ -57,7 +61,7 @@ pub fn page_text(
     push_before(&mut out)?;
     push_known(&mut out, alloc, journal, story)?;
     push_between(&mut out)?;
-    push_story(&mut out, alloc, journal, story, NO_STEPS)?;
+    push_story(&mut out, alloc, journal, story, no_steps())?;
     push_after(&mut out)?;
     Ok(out)
 }

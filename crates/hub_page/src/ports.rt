@@ -1,6 +1,6 @@
 //! What the ports hold at most.
 
-ghost use Rattle.std.specs.Prelude.{◌≡◌, ◌≤◌, ◌<◌, ◌+◌, ◌==◌, length, max, if◌then◌else◌};
+ghost use Rattle.std.specs.Prelude.{◌≡◌, ◌≤◌, ◌<◌, ◌+◌, ◌==◌, length, max, replicate, IfOk, if◌then◌else◌};
 ghost use Rattle.std.specs.List.{list_any};
 ghost use Rattle.hub_base.specs.declared.value.Port.{Port};
 ghost use Rattle.hub_page.specs.Levels.{count_at, level_of};
@@ -10,6 +10,7 @@ use crate::levels::Levels;
 use hub_base::{Case, MOST_PORTS, Outcome, Port, What};
 use hub_core::ShortEntries;
 use hub_story::Told;
+use std::alloc::{AllocError, Global};
 
 /// The port on which the event tells that a value moved.
 fn moved_port(entries: &ShortEntries, told: &Told) -> Option<Port>
@@ -23,6 +24,13 @@ fn moved_port(entries: &ShortEntries, told: &Told) -> Option<Port>
         (Case::Recv(port), Outcome::Got(_)) => Some(port),
         _ => None,
     }
+}
+
+/// A table of what each port holds at most, before a step.
+pub(crate) fn none_held(alloc: Global) -> Result<Vec<u64>, AllocError>
+    ensures { IfOk result (λ most. most.items ≡ replicate (MOST_PORTS + 1) 0) }
+{
+    vec![in alloc; 0; MOST_PORTS + 1]
 }
 
 /// Takes in how many values the port holds, if it is in the table.

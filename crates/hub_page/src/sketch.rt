@@ -92,16 +92,10 @@ impl<'a> Sketch<'a> {
         requires few { port.0 ≤ MOST_PORTS }
         ensures { result ≡ port_counts (entries_of self.now.known.now) (told_of self.now.known.now) self.now.block.now.first self.now.end port }
     {
-        let place = usize::from(port.0);
-        let levels = &self.past.levels;
         PortCounts {
-            most: count_at(&self.block.most, place),
-            sent: levels
-                .sent_on(port)
-                .saturating_sub(count_at(&self.block.sent, place)),
-            received: levels
-                .received_on(port)
-                .saturating_sub(count_at(&self.block.received, place)),
+            most: count_at(&self.block.most, port.0.into()),
+            sent: self.past.levels.sent_since(&self.block.sent, port),
+            received: self.past.levels.received_since(&self.block.received, port),
         }
     }
 }

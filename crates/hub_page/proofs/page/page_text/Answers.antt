@@ -1,3 +1,5 @@
+use Rattle.std.proofs.Common.{◌++◌, ◌∙◌, ap}
+use Rattle.hub_story.specs.declared.window.Window.{Window}
 use Rattle.hub_story_text.specs.StoryText.{story_text}
 use Rattle.hub_page.specs.Data.{data_text}
 use Rattle.hub_page.specs.Page.{no_steps}
@@ -10,5 +12,6 @@ returns c =
     let es = c.args.journal.now.entries in
     let told = c.args.story.now.told.items in
     five-parts before_text (data_text c.args.journal.now.head es told) between_text (story_text no_steps es told) after_text _ _ _ _ _ _
-    c.new-out.ensures c.in_ok-push_before.ensures c.in_ok-push_known.ensures c.in_ok-push_between.ensures c.in_ok-push_story.ensures
+    c.new-out.ensures c.in_ok-push_before.ensures c.in_ok-push_known.ensures c.in_ok-push_between.ensures
+    (c.in_ok-push_story.ensures ∙ ap (λ (w : Window). c.push_between.new.out.items ++ story_text w es told) c.no_steps.ensures)
     c.in_ok-push_after.ensures

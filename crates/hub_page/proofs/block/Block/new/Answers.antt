@@ -24,7 +24,7 @@ returns-clause-begun c =
       asked = λ lane few. none-counted (asked_at es procs lane) _ first _ lane (c.in_ok-vec.ensures.items_if_clones_equal (λ y h. h));
       troubles = λ lane few. none-counted (troubles_at all procs lane) _ first _ lane (c.in_ok-vec-2.ensures.items_if_clones_equal (λ y h. h));
       waited = λ lane few. none-counted (waits_at all procs lane) _ first _ lane (c.in_ok-vec-3.ensures.items_if_clones_equal (λ y h. h));
-      most = λ p few. none-held (held_at es all p) _ first (MOST_PORTS + 1) p (c.in_ok-vec-4.ensures.items_if_clones_equal (λ y h. h));
+      most = λ p few. none-held (held_at es all p) _ first (MOST_PORTS + 1) p c.in_ok-none_held.ensures;
       sent = λ p few. first-ports _ _ p few (c.in_ok-from_slice.ensures.items ∙ ap (take (MOST_PORTS + 1)) c.deref.ensures.value) ∙ c.requires.levels.sent p;
       received = λ p few.
           first-ports _ _ p few (c.in_ok-from_slice-2.ensures.items ∙ ap (take (MOST_PORTS + 1)) c.deref-2.ensures.value)

@@ -1,8 +1,11 @@
-/* Each call of chanhub.h, by one thread with a stack of 64 KB: what it returns, and the journal at the end. */
+/* Each call of chanhub.h, by one thread with a stack of 64 KB, or the least that the machine has: what it returns, and the journal at the
+ * end.
+ */
 #include "tally.h"
 
 #include <pthread.h>
 #include <stdlib.h>
+#include <unistd.h>
 
 static void openings(void) {
     chanhub *hub;
@@ -177,7 +180,8 @@ static void *run(void *unused) {
 int main(void) {
     pthread_attr_t small;
     pthread_t thread;
-    if (pthread_attr_init(&small) || pthread_attr_setstacksize(&small, 65536)) return 2;
+    size_t least = (size_t)sysconf(_SC_THREAD_STACK_MIN), stack = least > 65536 ? least : 65536;
+    if (pthread_attr_init(&small) || pthread_attr_setstacksize(&small, stack)) return 2;
     if (pthread_create(&thread, &small, run, NULL) || pthread_join(thread, NULL)) return 2;
     pthread_attr_destroy(&small);
     return tally("calls");

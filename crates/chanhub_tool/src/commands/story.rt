@@ -18,6 +18,9 @@ use std::alloc::{AllocError, Global};
 use std::env::{Env, FillError};
 use std::io::IsTerminal;
 
+/// The words that say when the lines of steps are shown in colours.
+const WORDS: &[&str] = &["auto", "always", "never"];
+
 /// When the lines of steps are shown in colours.
 #[derive(Clone, Copy)]
 enum Colours {
@@ -46,7 +49,7 @@ fn colour_option<'a>(alloc: Global) -> Arg<'a> {
         "When steps are in colours; auto: where the story goes to a terminal and NO_COLOR is not set",
     )
     .long("color")
-    .value_parser(&["auto", "always", "never"])
+    .value_parser(WORDS)
 }
 
 pub(super) fn grammar<'a>(alloc: Global) -> Result<Command<'a>, AllocError> {

@@ -17,9 +17,15 @@
  * in the next step under the same lock, unless a chapter has to be handed out before. If the clock waits later, no stall is missed, since
  * the hub looks for one at each call that parks. While the clock is awake, a call first looks whether it is due.
  *
+ * A journal tells of each call with a deadline whether it waited. One that was tried waits only if its process wakes the clock in its next
+ * step, which no caller can. While the clock is awake, a call is tried only if it is not to wait, and otherwise waits without a try.
+ *
  * A hub that follows a journal makes a step only in its turn. A call whose turn has not come waits at its place. After each step the
  * thread that made it wakes the process whose step is next; once there is none, since the hub has diverged or all is made, it wakes all.
  * If the hub ends then, each call is told so, also those that wait for an answer.
+ *
+ * If the clock's steps are next in that journal, the thread that made the step before makes them too, before it lets go of the lock. So
+ * nobody ever waits for the clock. No deadline is looked at until the hub no longer follows.
  *
  * A look takes no lock, but for the first at each port. From then on, whoever makes a step that may change the port's counts asks the hub
  * for them before it lets go of the lock, and shows them in one atomic word. So a look gives the counts that the hub told after one
@@ -30,6 +36,7 @@
 
 #include "heap.h"
 #include "hub_c.h"
+#include "recorded.h"
 
 #include <errno.h>
 #include <pthread.h>
@@ -104,7 +111,8 @@ struct chanhub {
     pthread_mutex_t lock;
     uint64_t open;              /* whose call is open: it has parked, and its answer is not picked up */
     uint64_t awaited;           /* for whose answer a thread waits now */
-    uint64_t timed;             /* whose call with a deadline waits in the hub, or is about to */
+    uint64_t timed;             /* whose call with a deadline waits in the hub, or is about to; nobody's while the clock waits too */
+    uint64_t timed_out;         /* whose call the clock cancelled; its answer is not picked up */
     uint64_t watched;           /* whose calls look at the clock first: all while it is awake, and its own */
     uint8_t clock;              /* the number of the clock; NOBODY where there is none */
     enum clock clock_is;
@@ -115,6 +123,7 @@ struct chanhub {
     bool follows;               /* whether it follows a journal, so that a step may have to wait for its turn */
     bool goes_on;               /* whether it goes on when it has diverged from that */
     bool asks_again;            /* whether a call whose turn has not come is told so */
+    struct recorded recorded;   /* that journal, if it has a clock */
     uint64_t turns;             /* whose calls wait for their turn */
     atomic_uint_least64_t end;  /* the number of the step at which it ended, since it diverged there; else 0 */
     bool waits;                 /* whether a chapter waits in the hub; the thread that claimed it hands it out */
@@ -138,9 +147,11 @@ static inline uint64_t only_port(unsigned port) {
     return port - 1 < MOST_PORTS ? (uint64_t)1 << (port - 1) : 0;
 }
 
-/* Notes what the clock is at. Holds the lock. */
+/* Notes what the clock is at. Holds the lock. Where the clock waits, no call that waits has a deadline that counts: otherwise the program
+ * gives one to a call that had none in the journal that the hub follows. */
 static void set_clock(chanhub *h, enum clock clock_is) {
     h->clock_is = clock_is;
+    if (clock_is != AWAKE) h->timed = 0;
     h->watched = clock_is == AWAKE ? EVERYBODY : only(h->clock);
 }
 
@@ -158,6 +169,7 @@ static void init_place(struct place *place) {
 /* The hub that was opened, or why it was not. */
 static int opened(chanhub **hub, chanhub *h, int refusal) {
     if (refusal) {
+        free_recorded(&h->recorded);
         free(h);
         return refusal;
     }
@@ -212,28 +224,37 @@ static unsigned number_at(const char *text) {
     return text[1] == '\n' ? first : 10 * first + (unsigned)(text[1] - '0');
 }
 
-/* Whether the head lines of a journal, which is well formed, say what the options do. Returns what differs, or 0. */
-static int differs(const chanhub_options *o) {
+/* Whether the hub of a journal, which is well formed, was opened as the options say. Returns what differs, or 0. */
+static int differs(const chanhub_options *o, bool has_clock) {
     static const char edition_line[] = "chanhub journal E\n", procs_line[] = "procs ";
     const char *edition = o->journal + sizeof edition_line - 3, *procs = edition + 2 + sizeof procs_line - 1;
-    if (o->procs && o->procs != number_at(procs)) return 1;
+    if (o->clock && !has_clock) return 7;
+    if (o->procs && o->procs != number_at(procs) - has_clock) return 1;
     return o->edition && o->edition != number_at(edition) ? 4 : 0;
 }
 
-/* Opens a hub that follows the journal of the options. */
+/* What refuses the journal that a hub which was just opened is to follow, or 0. Reads it if it has a clock. */
+static int read_journal_of(chanhub *h, const chanhub_options *o) {
+    if (!read_recorded(&h->recorded, o->journal, o->journal_length)) return 3;
+    return differs(o, h->recorded.count != 0);
+}
+
+/* Opens a hub that follows the journal of the options. If that has a clock, its first step is the clock's. */
 static int open_following(chanhub **hub, const chanhub_options *o) {
-    if (o->limit || o->keep || o->chapters || o->clock) return 7;
+    if (o->limit || o->keep || o->chapters) return 7;
     chanhub *h = calloc(1, sizeof *h);
     if (!h) return 3;
     struct followed f = hub_c_open_following(&h->hub, (const uint8_t *)o->journal, o->journal_length, o->goes_on);
     if (o->journal_line) *o->journal_line = f.line;
-    int why = f.refusal ? f.refusal : differs(o);
+    int why = f.refusal ? f.refusal : read_journal_of(h, o);
     if (why) hub_c_end(&h->hub);
     h->limit = MOST_STEPS;
-    h->follows = true;
     h->goes_on = o->goes_on;
     h->asks_again = o->asks_again;
-    return opened(hub, h, why);
+    why = opened(hub, h, why);
+    if (!why && h->recorded.count) why = start_clock(hub, h->recorded.entries[0].pid);
+    if (!why) h->follows = !h->goes_on || hub_c_next(&h->hub);
+    return why;
 }
 
 int chanhub_open_with(chanhub **hub, const chanhub_options *options) {
@@ -405,9 +426,9 @@ static bool has_passed(uint64_t time) {
     return time != FOR_EVER && time <= now();
 }
 
-/* When the deadline of this process's open call passes. Holds the lock. */
+/* When the deadline of this process's open call passes. No time ends a call while the hub follows a journal. Holds the lock. */
 static uint64_t deadline_of(const chanhub *h, unsigned pid) {
-    return h->timed & only(pid) ? h->places[pid].deadline : FOR_EVER;
+    return h->timed & only(pid) && !h->follows ? h->places[pid].deadline : FOR_EVER;
 }
 
 /* Whether a wait until this time begins with looks, since most answers come soon. After each that came late twice as many waits go
@@ -458,7 +479,10 @@ static chanhub_told pick_up(chanhub *h, unsigned pid) {
     struct told t = { 0 };
     hub_c_take(&h->hub, (uint8_t)pid, &t);
     if (!t.it.what && h->end) t.it = refused(h, CHANHUB_DIVERGED);
-    if (t.it.what) h->open &= ~only(pid);
+    if (!t.it.what) return t.it;
+    if (h->timed_out & only(pid)) t.it.what = CHANHUB_TIMED_OUT;
+    h->timed_out &= ~only(pid);
+    h->open &= ~only(pid);
     return t.it;
 }
 
@@ -577,11 +601,15 @@ static bool wait_for_turn(chanhub *h, unsigned pid, uint64_t end) {
     return has_time;
 }
 
-/* Wakes the process whose step is next, or all if there is none. Then a hub that goes on no longer follows. */
+/* Wakes the process whose step is next, or all if there is none. Then a hub that goes on no longer follows, and deadlines count, so those
+ * that wait with one have to look at it. */
 static void wake_turns(chanhub *h) {
     uint64_t next = hub_c_next(&h->hub), woken = next ? h->turns & next : h->turns;
-    if (!next && h->goes_on) h->follows = false;
     h->turns &= ~woken;
+    if (!next && h->goes_on) {
+        h->follows = false;
+        woken |= h->timed & h->awaited;
+    }
     wake(h, woken);
 }
 
@@ -696,9 +724,14 @@ static void hand_out_rest(chanhub *h) {
 
 /* ---- The clock. Each of these holds the lock; in a hub that never ends, not while it waits or hands out a chapter. ---- */
 
-/* Whether the clock is to wait, or to exit. */
-static inline bool is_clock_due(const chanhub *h) {
-    return h->clock_is == AWAKE && !h->timed;
+/* Whether the clock's step is next in the journal that the hub follows. */
+static bool is_clock_next(chanhub *h) {
+    return !h->end && hub_c_next(&h->hub) & only(h->clock);
+}
+
+/* Whether the clock is to make a step: to wait or to exit, or what the journal has. */
+static inline bool is_clock_due(chanhub *h) {
+    return h->follows ? is_clock_next(h) : h->clock_is == AWAKE && !h->timed;
 }
 
 /* Notes whose calls a step ended. If the clock's is among them, it is awake; its answer is left, until its next step. Holds the lock since
@@ -723,24 +756,47 @@ static void exit_clock(chanhub *h, struct told *t) {
     set_clock(h, GONE);
 }
 
-/* The clock waits; or it exits, if no other process is left, or no step. */
-static void step_clock(chanhub *h, struct told *t) {
-    if (h->exits < h->clock) {
-        hub_c_recv(&h->hub, h->clock, 0, t);
-        if (t->it.what == CHANHUB_WAITING) set_clock(h, ASLEEP);
-        if (t->it.fault != CHANHUB_JOURNAL_FULL) return;
-    }
-    exit_clock(h, t);
+/* The clock waits. */
+static void park_clock(chanhub *h, struct told *t) {
+    hub_c_recv(&h->hub, h->clock, 0, t);
+    if (t->it.what == CHANHUB_WAITING) set_clock(h, ASLEEP);
 }
 
-/* Makes the clock's steps that are due, within a call of this process: more than one if its wait brings a stall. It is still due
- * afterwards if it was refused memory. */
+/* The clock cancels the open call of a process. */
+static void cancel_by_clock(chanhub *h, unsigned pid, struct told *t) {
+    hub_c_cancel(&h->hub, h->clock, (uint8_t)pid, t);
+    if (t->it.what == CHANHUB_DONE) h->timed_out |= only(pid);
+}
+
+/* The clock waits; or it exits, if no other process is left, or no step. */
+static void step_clock_freely(chanhub *h, struct told *t) {
+    if (h->exits < h->clock) park_clock(h, t);
+    if (h->exits == h->clock || t->it.fault == CHANHUB_JOURNAL_FULL) exit_clock(h, t);
+}
+
+/* What this process's next step is in the journal that the hub follows, or followed. */
+static uint8_t next_step(chanhub *h, unsigned pid) {
+    return next_recorded(&h->recorded, hub_c_entries(&h->hub), pid);
+}
+
+/* The clock makes its next step in the journal that the hub follows. */
+static void step_clock_again(chanhub *h, struct told *t) {
+    uint8_t step = next_step(h, h->clock);
+    if (step == A_WAIT) park_clock(h, t);
+    else if (step == AN_EXIT) exit_clock(h, t);
+    else cancel_by_clock(h, step, t);
+}
+
+/* Makes the clock's steps that are due, within a call of this process: more than one if its wait brings a stall. If it is refused memory,
+ * it is still due afterwards, or a hub that follows a journal ends, since other threads may wait for that step. */
 static void settle_clock(chanhub *h, unsigned pid) {
     while (is_clock_due(h)) {
         struct told t = { 0 };
-        step_clock(h, &t);
+        if (h->follows) step_clock_again(h, &t);
+        else step_clock_freely(h, &t);
         if (is_to_be_made_again(h, pid, &t)) continue;
-        if (t.it.what == CHANHUB_FAULT) return;
+        if (t.it.fault == CHANHUB_NO_MEMORY && h->follows) end_at(h, hub_c_entries(&h->hub) + 1);
+        if (t.it.what == CHANHUB_FAULT && t.it.fault != CHANHUB_NOT_PARKED) return;
         follow_up(h, pid, &t);
     }
 }
@@ -749,13 +805,15 @@ static void settle_clock(chanhub *h, unsigned pid) {
  * call with a deadline, to end it. */
 static uint64_t steps_left(chanhub *h) {
     if (!h->limit) return UINT64_MAX;
-    return h->limit - (hub_c_entries(&h->hub) - h->exits) - (uint64_t)__builtin_popcountll(h->timed);
+    uint64_t used = hub_c_entries(&h->hub) - h->exits + (uint64_t)__builtin_popcountll(h->timed);
+    return used < h->limit ? h->limit - used : 0;
 }
 
 /* Why a call of this process cannot begin while the clock is awake, or 0. Each step can leave all others waiting, so a clock that is due
  * waits before it. An exit is never refused: if the clock cannot wait, it exits before. */
 static uint8_t refusal_by_clock(chanhub *h, unsigned pid, bool exits) {
     if (pid == h->clock) return CHANHUB_NO_PROCESS;
+    if (h->follows) return 0;
     settle_clock(h, pid);
     if (exits) {
         struct told t = { 0 };
@@ -778,32 +836,43 @@ static uint8_t wake_clock(chanhub *h, unsigned pid) {
     return h->clock_is == AWAKE ? 0 : CHANHUB_NO_MEMORY;
 }
 
-/* Gets ready for a call of this process that is to wait until this deadline. Returns what refuses it, or 0: then there is a step for the
- * call and one to end it, and the clock is awake. */
-static uint8_t begin_deadline(chanhub *h, unsigned pid, uint64_t deadline) {
+/* Gets ready for a call of this process that was tried and is to wait. Returns what refuses it, or 0: then there is a step for the call and
+ * one to end it, and the clock is awake. */
+static uint8_t begin_deadline(chanhub *h, unsigned pid) {
     uint64_t steps = h->clock_is == ASLEEP ? 3 : 2;
     if (steps_left(h) < steps) return CHANHUB_JOURNAL_FULL;
-    h->places[pid].deadline = deadline;
     h->timed |= only(pid);
     return wake_clock(h, pid);
+}
+
+/* Whether a call of this process is to wait without a try, if it has to: while the clock is awake, unless the deadline has passed, or there
+ * are no steps to wait and to end it. A journal that is followed says what the call did. */
+static bool waits_untried(chanhub *h, unsigned pid) {
+    if (h->follows) {
+        uint8_t next = next_step(h, pid);
+        return next == A_CALL || next == A_WAIT;
+    }
+    return h->clock_is == AWAKE && steps_left(h) >= 2 && !has_passed(h->places[pid].deadline);
+}
+
+/* Whether a call of this process that was tried in vain is to wait: until its deadline, or as a journal says that was followed at the
+ * try, where its process then wakes the clock. */
+static bool waits_when_tried(chanhub *h, unsigned pid, bool followed) {
+    return followed ? next_step(h, pid) == h->clock : !has_passed(h->places[pid].deadline);
 }
 
 /* Has the clock cancel the open call of this process, unless that is answered before, and picks up its answer. WAITING with the fault
  * where the clock was refused memory. */
 static chanhub_told time_out(chanhub *h, unsigned pid) {
     struct told t = { 0 };
-    bool is_done = false;
     while (h->timed & only(pid)) {
-        hub_c_cancel(&h->hub, h->clock, (uint8_t)pid, &t);
+        cancel_by_clock(h, pid, &t);
         if (is_to_be_made_again(h, pid, &t)) continue;
         if (t.it.what != CHANHUB_DONE) return (chanhub_told){ .what = CHANHUB_WAITING, .fault = t.it.fault };
-        is_done = true;
         follow_up(h, pid, &t);
         settle_clock(h, pid);
     }
-    chanhub_told answer = pick_up(h, pid);
-    if (is_done) answer.what = CHANHUB_TIMED_OUT;
-    return answer;
+    return pick_up(h, pid);
 }
 
 /* ---- The calls. ---- */
@@ -859,7 +928,7 @@ static chanhub_told finish_by_waking(chanhub *h, uint8_t pid, const struct told 
 /* Ends the call of a process whose step came to this, which mostly needs no more than the lock. Holds the lock since the step, and leaves
  * it. */
 static inline chanhub_told finish(chanhub *h, uint8_t pid, const struct told *t, uint64_t nanoseconds) {
-    if (t->it.what == CHANHUB_WAITING || t->ended || t->chapter) return finish_by_waking(h, pid, t, nanoseconds);
+    if (t->it.what == CHANHUB_WAITING || t->ended || t->chapter || h->follows) return finish_by_waking(h, pid, t, nanoseconds);
     leave_lock(h);
     return t->it;
 }
@@ -958,32 +1027,50 @@ chanhub_told chanhub_begin(chanhub *h, unsigned pid, const chanhub_case *cases, 
     return select_for(h, pid, cases, count, has_default, word, 0);
 }
 
-/* Makes a call that has to wait, with a deadline. Holds the lock, and leaves it. */
-static chanhub_told wait_with_deadline(chanhub *h, unsigned pid, const chanhub_case *cases, size_t count, uint64_t word,
-                                       uint64_t deadline, uint64_t nanoseconds) {
-    struct told t = { 0 };
-    uint8_t why = begin_deadline(h, pid, deadline);
-    if (why) t.it = fault(why);
-    else STEP(h, pid, &t, hub_c_call(&h->hub, (uint8_t)pid, cases, count, false, word, &t));
-    show_fired(h, cases, count, &t);
-    if (t.it.what != CHANHUB_WAITING) h->timed &= ~only(pid);
-    return finish_by_waking(h, (uint8_t)pid, &t, nanoseconds);
+/* Ends a call with a deadline whose step came to this. It no longer has one unless it waits. Holds the lock since the step, and leaves
+ * it. */
+static chanhub_told finish_timed(chanhub *h, unsigned pid, const struct told *t, uint64_t nanoseconds) {
+    if (t->it.what != CHANHUB_WAITING || h->clock_is != AWAKE) h->timed &= ~only(pid);
+    return finish_by_waking(h, (uint8_t)pid, t, nanoseconds);
 }
 
-/* A select with a deadline. It is tried first, with a default. */
+/* Makes a call that was tried and has to wait, with a deadline. Holds the lock, and leaves it. */
+static chanhub_told wait_with_deadline(chanhub *h, unsigned pid, const chanhub_case *cases, size_t count, uint64_t word,
+                                       uint64_t nanoseconds) {
+    struct told t = { 0 };
+    uint8_t why = begin_deadline(h, pid);
+    if (why) t.it = refused(h, why);
+    else STEP(h, pid, &t, hub_c_call(&h->hub, (uint8_t)pid, cases, count, false, word, &t));
+    show_fired(h, cases, count, &t);
+    return finish_timed(h, pid, &t, nanoseconds);
+}
+
+/* A select with a deadline. It is tried first, with a default, unless it is to wait without. A call that was tried in the place that a
+ * journal has, and then was refused memory, goes on from there. */
 static chanhub_told select_until(chanhub *h, unsigned pid, const chanhub_case *cases, size_t count, bool has_default, uint64_t word,
                                  uint64_t deadline, uint64_t nanoseconds) {
     struct told t = { 0 };
     if (is_bad(h, pid, 0) || h->clock == NOBODY) return fault(CHANHUB_BAD_CALL);
     if (has_default || deadline == FOR_EVER) return select_for(h, pid, cases, count, has_default, word, nanoseconds);
+    if (pid >= h->clock) return fault(CHANHUB_NO_PROCESS);
     uint8_t why = enter(h, pid);
     if (why) return refused(h, why);
-    STEP(h, pid, &t, hub_c_call(&h->hub, (uint8_t)pid, cases, count, true, word, &t));
+    bool waits, followed;
+    h->places[pid].deadline = deadline;
+    if (h->follows && next_step(h, pid) == h->clock) return wait_with_deadline(h, pid, cases, count, word, nanoseconds);
+    do {
+        followed = h->follows;
+        waits = waits_untried(h, pid);
+        if (waits) h->timed |= only(pid);
+        else h->timed &= ~only(pid);
+        hub_c_call(&h->hub, (uint8_t)pid, cases, count, !waits, word, &t);
+    } while (is_to_be_made_again(h, pid, &t));
     show_fired(h, cases, count, &t);
+    if (waits) return finish_timed(h, pid, &t, nanoseconds);
     if (t.it.what == CHANHUB_DEFAULT) {
-        if (!has_passed(deadline)) {
+        if (waits_when_tried(h, pid, followed)) {
             follow_up(h, pid, &t);
-            return wait_with_deadline(h, pid, cases, count, word, deadline, nanoseconds);
+            return wait_with_deadline(h, pid, cases, count, word, nanoseconds);
         }
         t.it.what = CHANHUB_TIMED_OUT;
     }
@@ -1056,6 +1143,10 @@ chanhub_counts chanhub_look(chanhub *h, unsigned port) {
     return word ? counts_in(word, shown->cap) : look_under_lock(h, port);
 }
 
+bool chanhub_has_clock(const chanhub *h) {
+    return h && h->clock != NOBODY;
+}
+
 uint64_t chanhub_steps_left(chanhub *h) {
     if (!h) return 0;
     take_lock(h);
@@ -1097,5 +1188,6 @@ void chanhub_free(chanhub *h) {
     for (int pid = 0; pid < MOST_PROCS; pid++) pthread_cond_destroy(&h->places[pid].answered);
     pthread_cond_destroy(&h->handed);
     pthread_mutex_destroy(&h->lock);
+    free_recorded(&h->recorded);
     free(h);
 }

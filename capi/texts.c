@@ -23,7 +23,7 @@ const char *chanhub_strerror(int error) {
         "the edition must be 1 or 2, and 2 with a clock",
         "the journal to follow is malformed",
         "the journal to follow has a step that no hub admits there",
-        "a hub that follows a journal has no limit, no chapters and no clock of its own",
+        "a hub that follows a journal has no limit and no chapters, and a clock only if the journal has one",
     };
     return text_at(texts, sizeof texts / sizeof *texts, error);
 }

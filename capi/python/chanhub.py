@@ -59,6 +59,8 @@ A hub can follow a journal, so that a run is repeated exactly as it was:
     with Hub.follow(Path('flaky.journal').read_bytes()) as hub:
         ...                                         # a call that the journal has not here raises Diverged
 
+If the journal's hub had timeouts, each call times out, or is answered, as it was there, however long that takes.
+
 Ctrl-C interrupts a wait of the main thread with KeyboardInterrupt. Nothing is lost: the call stays open, `seat.waits` is true, and
 `seat.resume()` resumes the wait. When a `with Hub` block ends, no new call begins, and each waiting call ends. A hub belongs to the
 operating-system process that opened it: in a forked child, every call on it raises RuntimeError.
@@ -258,6 +260,7 @@ def _library() -> ctypes.CDLL:
             ('expire', ctypes.c_bool, [hub, number]),
             ('turn', ctypes.c_bool, [hub, number, ctypes.c_uint64]),
             ('stop', None, [hub]),
+            ('has_clock', ctypes.c_bool, [hub]),
             ('resume', _Told, [hub, number, ctypes.c_uint64]),
             ('close', _Told, [hub, number, number]),
             ('exit', _Told, [hub, number]),
@@ -636,14 +639,17 @@ def _open_following(journal: bytes, goes_on: bool) -> ctypes.c_void_p:
     return handle
 
 
-def _numbers_sent(journal: bytes) -> Dict[int, Iterator[int]]:
-    """Returns the numbers that each process sends in a journal, in order, also those of the cases of its selects."""
+def _numbers_sent(journal: bytes, clock: Optional[int]) -> Dict[int, Iterator[int]]:
+    """Returns the numbers that each process sends in a journal, in order, also those of the cases of its selects. A call that wakes the
+    clock has them twice there, and once here."""
     sent: Dict[int, List[int]] = {}
+    wakes = None
     for line in journal.decode().splitlines()[2:]:
         pid, step, *fields = line.split()
         cases = [fields[1]] if step == 'send' else [field.partition(':')[2] for field in fields[1:] if field.startswith('s')]
-        if step in ('send', 'select'):
+        if step in ('send', 'select') and pid != wakes:
             sent.setdefault(int(pid), []).extend(int(value) for value in cases if value.isdigit())
+        wakes = pid if step == 'cancel' and int(fields[0]) == clock else None
     return {pid: iter(numbers) for pid, numbers in sent.items()}
 
 
@@ -740,19 +746,22 @@ class Hub:
 
         A process that never makes its next step holds up all whose turn is later. When a `with Hub` block ends, they raise Diverged.
 
-        With `objects`, which the hub of the journal must have had, a value is any object, as in such a hub. Calls take no timeouts:
-        the journal of a hub with `timeouts` cannot be followed.
+        With `objects`, which the hub of the journal must have had, a value is any object, as in such a hub. If that hub had `timeouts`,
+        calls take them. A call raises TimedOut if, and only if, it did in the journal's run, whatever time it is now. Timeouts count again
+        once the hub goes on freely.
 
         Raises ValueError if the journal is malformed, or has a step that is not admitted in its turn. MemoryError if memory runs out.
         """
         hub = cls.__new__(cls)
         hub._chapters = None
         handle = _open_following(journal, goes_on)
-        hub._set_up(handle, int(journal.split(None, 5)[4]), objects=objects)
+        timeouts = bool(_LIBRARY.chanhub_has_clock(handle))
+        procs = int(journal.split(None, 5)[4]) - timeouts  # the clock is one more
+        hub._set_up(handle, procs, objects=objects, timeouts=timeouts)
         hub._follows = True
         hub._quick = None  # its calls wait for their turn
         if objects:
-            hub._sent = _numbers_sent(journal)
+            hub._sent = _numbers_sent(journal, procs if timeouts else None)
             hub._numbers = count(1 << 63)  # those that the journal has not
         return hub
 

@@ -12,8 +12,8 @@ there raises Diverged.
     pytest -k test_pool                         # it fails once in a hundred times
     pytest -k test_pool --chanhub-follow        # now always, until the program does something else
 
-pytest finds the plugin if chanhub is installed; otherwise give it `-p chanhub_pytest`. Hubs with `keep` or `timeouts` are not kept: a
-journal of theirs cannot be followed.
+pytest finds the plugin if chanhub is installed; otherwise give it `-p chanhub_pytest`. Hubs with `keep` are not kept: a chapter cannot be
+followed.
 """
 from __future__ import annotations
 
@@ -49,7 +49,7 @@ def _file_of(item: pytest.Item, place: int) -> Path:
 
 def _opened(item: pytest.Item, procs: int, arguments: Any, options: Any) -> Hub:
     """Opens the next hub of a test."""
-    if options.get('keep') or options.get('timeouts'):
+    if options.get('keep'):
         return Hub(procs, *arguments, **options)
     kept = item.stash.setdefault(_KEPT, [])
     file = _file_of(item, len(kept))

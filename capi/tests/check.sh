@@ -190,7 +190,7 @@ printf 'timed out\ngot 9\n' > "$work/times"
 printf 'stalled: 0 recv 2\nstalled: 1 recv 1\n' > "$work/stalled"
 printf 'got 5\nneither\nsent\n' > "$work/choice-lines"
 
-for test in calls conveniences crew threads memory endless handing chapters files soak steps deadlines following; do
+for test in calls conveniences crew threads memory endless handing chapters files soak steps deadlines following followed_clock followed_runs; do
     check "$test builds" "$cc" $flags "tests/$test.c" out/libchanhub.a -lpthread -o "$work/$test"
 done
 check 'resume builds' "$cc" $flags -Wl,--wrap=clock_gettime tests/resume.c out/libchanhub.a -lpthread -o "$work/resume"
@@ -205,10 +205,10 @@ for test in alone threads; do
 done
 wrapped=
 for name in make send recv call cancel exit entries take look present; do wrapped="$wrapped -Wl,--wrap=hub_c_$name"; done
-check 'inside builds' "$cc" $flags $wrapped chanhub.c heap.c tests/inside.c $proved -lpthread -o "$work/inside"
+check 'inside builds' "$cc" $flags $wrapped chanhub.c heap.c recorded.c tests/inside.c $proved -lpthread -o "$work/inside"
 check 'no two inside of a hub' "$work/inside"
 wraps_looks=-Wl,--wrap=hub_c_look,--wrap=hub_c_recv
-check 'looks builds' "$cc" $flags $wraps_looks chanhub.c heap.c tests/looks.c $proved -lpthread -o "$work/looks"
+check 'looks builds' "$cc" $flags $wraps_looks chanhub.c heap.c recorded.c tests/looks.c $proved -lpthread -o "$work/looks"
 for test in alone inside; do
     check "looks: $test" "$work/looks" "$test"
 done
@@ -221,11 +221,14 @@ for test in load chapters; do
 done
 wrapped=
 for name in recv call cancel; do wrapped="$wrapped -Wl,--wrap=hub_c_$name"; done
-check 'clock builds' "$cc" $flags $wrapped chanhub.c heap.c tests/clock.c $proved -lpthread -o "$work/clock"
+check 'clock builds' "$cc" $flags $wrapped chanhub.c heap.c recorded.c tests/clock.c $proved -lpthread -o "$work/clock"
 check 'each step refused while deadlines pass' "$work/clock"
 for test in alone threads; do
     check "a journal is followed: $test" "$work/following" "$test"
 done
+check 'a journal with a clock is followed' "$work/followed_clock"
+check 'a journal with a clock is followed: 200 random runs' "$work/followed_runs" 200
+check 'a journal with a clock is followed: 40 random runs under load' "$work/followed_runs" 40 16
 for cap in 0 1 7 1024; do
     check "64 threads that pass 160,000 values, capacity $cap" crew crew "$cap" 5000 "$program"
 done
@@ -283,8 +286,8 @@ if echo 'int main(void) { return 0; }' | "$cc" -fsanitize=thread -x c - -o "$wor
     sanitize="$flags -g -fsanitize=thread"
     # The library once, for all of them.
     sanitized="$work/sanitized.o $proved -lpthread"
-    check 'the library builds for the thread sanitizer' "$cc" $sanitize -r -nostdlib chanhub.c files.c heap.c texts.c -o "$work/sanitized.o"
-    for test in crew threads handing chapters soak deadlines following; do
+    check 'the library builds for the thread sanitizer' "$cc" $sanitize -r -nostdlib chanhub.c files.c heap.c recorded.c texts.c -o "$work/sanitized.o"
+    for test in crew threads handing chapters soak deadlines following followed_runs; do
         check "$test builds for the thread sanitizer" "$cc" $sanitize "tests/$test.c" $sanitized -o "$work/sanitized-$test"
     done
     check 'resume builds for the thread sanitizer' "$cc" $sanitize -Wl,--wrap=clock_gettime tests/resume.c $sanitized -o "$work/sanitized-resume"
@@ -304,6 +307,7 @@ if echo 'int main(void) { return 0; }' | "$cc" -fsanitize=thread -x c - -o "$wor
     check 'deadlines under the thread sanitizer: chapters' deadlines sanitized-deadlines chapters
     check 'a journal is followed under the thread sanitizer: alone' "$work/sanitized-following" alone
     check 'a journal is followed under the thread sanitizer: threads' "$work/sanitized-following" threads 20
+    check 'a journal with a clock is followed under the thread sanitizer: 20 random runs' "$work/sanitized-followed_runs" 20
     for test in $handing; do
         check "chapters that are handed out under the thread sanitizer: $test" "$work/sanitized-handing" "$test"
     done
@@ -318,7 +322,7 @@ else
 fi
 if command -v valgrind > "$work/found"; then
     for test in calls conveniences $by_cxx "crew $work 1 20" pool 'threads cancelled' 'threads second' 'threads closed' 'resume alone' \
-        'resume threads' 'deadlines alone' 'following alone' 'endless short' 'handing busy' 'handing parked' 'handing woken' 'handing full' 'handing cancelled' \
+        'resume threads' 'deadlines alone' 'following alone' followed_clock 'endless short' 'handing busy' 'handing parked' 'handing woken' 'handing full' 'handing cancelled' \
         "files $(mktemp -d -p "$work")"; do
         check "valgrind: $test" valgrind -q --error-exitcode=9 --leak-check=full --show-leak-kinds=all "$work"/$test
     done
@@ -348,6 +352,7 @@ check 'objects.py' prints "$work/report" python3 python/objects.py
 check 'tasks.py' prints "$work/sum" python3 python/tasks.py
 check '50 random rigs' tests/rigs.py "$program" 50
 check '200 random rigs, recorded and followed' tests/following.py 200
+check '100 random rigs with timeouts, recorded and followed' tests/followed_timeouts.py 100
 
 if command -v cargo > "$work/found"; then
     for test in --tests --doc; do

@@ -149,6 +149,35 @@ static void without_the_clock(void) {
     chanhub_free(hub);
 }
 
+/* Memory refused to each step in turn of a hub that follows a journal. A call that is refused it is made again. If a step of the clock is
+ * refused it, the hub ends there, and all are told so, since nobody could make that step again. */
+static void while_following(bool goes_on) {
+    static const char *const journal =
+        "chanhub journal 2\nprocs 3\n2 recv 0\n0 make 0\n0 select 0 r1 default\n0 cancel 2\n0 recv 1\n1 make 1\n2 cancel 0\n2 recv 0\n"
+        "1 exit\n";
+    enum { OPENING, TRY, WAKE, WAIT, CANCEL, CLOCK_WAITS, NONE };
+    chanhub_options options = { .journal = journal, .journal_length = strlen(journal), .goes_on = goes_on };
+    for (int step = OPENING; step <= NONE; step++) {
+        bool ends = step == CANCEL || step == CLOCK_WAITS;
+        steps = refused = 0, first = step, count = 1;
+        is("opened", chanhub_open_with(&hub, &options), step == OPENING ? 3 : 0);
+        if (step == OPENING) continue;
+        is("made", chanhub_make(hub, 0, 0).port, 1);
+        chanhub_told t;
+        GRANTED(t, 0, begin_recv_until(0, 0));
+        is("waiting", t.what, CHANHUB_WAITING);
+        is("made", chanhub_make(hub, 1, 1).port, 2);
+        t = chanhub_resume(hub, 0, CHANHUB_NEVER);
+        if (step == CANCEL) is_fault("its call", t, CHANHUB_DIVERGED);
+        else is("its call", t.what, CHANHUB_TIMED_OUT);
+        t = chanhub_exit(hub, 1);
+        is("what it is told", t.what, ends ? CHANHUB_FAULT : CHANHUB_DONE);
+        is("the clock's step", (long long)t.value.number, !ends ? 0 : step == CANCEL ? 7 : 8);
+        is("one was refused", refused, step != NONE);
+        chanhub_free(hub);
+    }
+}
+
 int main(void) {
     int runs = 0, clocks = 0;
     alarm(SECONDS);
@@ -162,6 +191,8 @@ int main(void) {
     is("steps were refused", runs > 60, 1);
     is("steps of the clock were refused", clocks > 20, 1);
     without_the_clock();
+    while_following(false);
+    while_following(true);
     printf("%d runs with refusals, %d of them of the clock's\n", runs, clocks);
     return tally("clock");
 }

@@ -138,10 +138,10 @@ static void others_are_first(void) {
     is("drained at once", chanhub_recv_until(hub, 1, 1, 0).what, CHANHUB_DRAINED);
     has_journal("journal", hub,
         BEGINNING "0 make 0\n"
-        "0 select 0 r1 default\n0 cancel 2\n0 recv 1\n1 select 0 s1:7 default\n2 recv 0\n"
+        "0 select 0 r1 default\n0 cancel 2\n0 recv 1\n1 send 1 7\n2 recv 0\n"
         "0 select 3 r0 s1:#6162 default\n0 cancel 2\n0 select 3 r0 s1:#6162\n1 cancel 0\n2 recv 0\n"
         "0 select 3 r0 s1:#6162 default\n0 cancel 2\n0 select 3 r0 s1:#6162\n1 select 0 r1 default\n2 recv 0\n"
-        "0 select 0 r1 default\n0 cancel 2\n0 recv 1\n1 select 0 r1 default\n1 recv 1\n2 cancel 0\n0 close 1\n2 recv 0\n"
+        "0 select 0 r1 default\n0 cancel 2\n0 recv 1\n1 recv 1\n2 cancel 0\n0 close 1\n2 recv 0\n"
         "1 select 0 r1 default\n");
     chanhub_free(hub);
 }
@@ -244,12 +244,14 @@ static void at_the_limit(void) {
 
 /* The same limit, step by step, with another process that would take the step that is kept. */
 static void others_leave_a_step(void) {
-    open_hub(2, 8);
+    open_hub(2, 9);
     is("made", chanhub_make(hub, 0, 0).port, 1);
     is("waiting", begin_recv_until(0, 1, FAR_OFF).what, CHANHUB_WAITING);
-    is("what is left", (long long)chanhub_steps_left(hub), 2);
+    is("what is left", (long long)chanhub_steps_left(hub), 3);
     is("default", chanhub_try_recv(hub, 1, 1).what, CHANHUB_DEFAULT);
     is("passed", chanhub_recv_until(hub, 1, 1, 0).what, CHANHUB_TIMED_OUT);
+    is("what is left", (long long)chanhub_steps_left(hub), 1);
+    is_fault("none to wait and none to end it", chanhub_recv_until(hub, 1, 1, FAR_OFF), CHANHUB_JOURNAL_FULL);
     is_fault("it is kept", chanhub_try_recv(hub, 1, 1), CHANHUB_JOURNAL_FULL);
     is_fault("it is kept", chanhub_send(hub, 1, 1, chanhub_number(1)), CHANHUB_JOURNAL_FULL);
     is("exit", chanhub_exit(hub, 1).what, CHANHUB_DONE);
@@ -258,8 +260,8 @@ static void others_leave_a_step(void) {
     is_fault("full", chanhub_try_recv(hub, 0, 1), CHANHUB_JOURNAL_FULL);
     is("exit", chanhub_exit(hub, 0).what, CHANHUB_DONE);
     has_journal("journal", hub,
-        BEGINNING "0 make 0\n0 select 0 r1 default\n0 cancel 2\n0 recv 1\n1 select 0 r1 default\n1 select 0 r1 default\n1 exit\n2 cancel 0\n"
-        "2 exit\n0 exit\n");
+        BEGINNING "0 make 0\n0 select 0 r1 default\n0 cancel 2\n0 recv 1\n1 select 0 r1 default\n1 select 0 r1 default\n"
+        "1 select 0 r1 default\n1 exit\n2 cancel 0\n2 exit\n0 exit\n");
     chanhub_free(hub);
 }
 

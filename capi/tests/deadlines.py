@@ -5,9 +5,11 @@ FOLDER/told has what each process was told, in order, each line behind its kind:
 journal is FOLDER/journal, or the history of the chapters FOLDER/journal.0, .1, ... PROGRAM is the built chanhub. If the built
 chanhub_tool (TOOL) is named, the chapters have to be whole to it as well.
 
-A call with a deadline that does not have to wait is a select with a default. One that does makes three steps: that select; a cancel of
-the clock, if the clock waits; and a send or a receive. It is told 'timed out' if, and only if, the clock cancels it, or its deadline has
-passed when it is made. While such a call waits the clock does not. Once none does, it waits: in the next step, if there is one journal.
+A call with a deadline begins with a select with a default, where the clock waits or the deadline has passed. If that has to wait and the
+deadline has not passed, two steps follow: a cancel of the clock, and a send or a receive. Where the clock does not wait and the deadline
+has not passed, the call is that send or receive alone. It is told 'timed out' if, and only if, the clock cancels it, or it was that
+select and took the default. While such a call waits the clock does not. Once none does, it waits: in the next step, if there is one
+journal.
 """
 import os
 import subprocess
@@ -58,32 +60,43 @@ def is_wait(entry):
     return entry.words[0] in ('send', 'recv')
 
 
-def told_of(own, clock):
-    """What a process was told by its own entries: lines as in FOLDER/told, without the process."""
-    own = iter(own)
-    entry = next(own, None)
-    while entry:
-        if not is_try(entry):
-            yield 'p', entry.answer
-            entry = next(own, None)
-            continue
-        answer, tried = entry.answer, entry
-        entry = next(own, None)
-        if answer != 'default':
-            yield 't', answer
-            continue
-        if entry and entry.step == f'cancel {clock}':
-            assert entry.answer == 'done', f'{entry.pid} {entry.step}'
-            entry = next(own)
-            assert is_wait(entry), f'{tried.pid} {tried.step} goes on by {entry.step}'
-        if not entry or not is_wait(entry):
-            yield 't', 'timed out'
-            continue
-        answer = entry.end if entry.answer == 'parked' else entry.answer
-        if answer == 'cancelled' and entry.ended_by.pid == clock:
-            answer = 'timed out'
-        yield 't', answer
-        entry = next(own, None)
+def end_of(entry, clock):
+    """How the send or the receive of a call with a deadline ended."""
+    if entry.answer != 'parked':
+        return entry.answer
+    return 'timed out' if entry.end == 'cancelled' and entry.ended_by.pid == clock else entry.end
+
+
+def told_by(own, place, clock, is_one):
+    """What the entry at this place of a process tells it of a call, in each way that it can be meant: a line as in FOLDER/told, without
+    the process, or None if the call goes on."""
+    entry, wakes = own[place], f'cancel {clock}'
+    after = own[place + 1] if place + 1 < len(own) else None
+    if entry.step == wakes:
+        assert entry.answer == 'done' and is_try(own[place - 1]) and is_wait(after), f'{entry.pid} {entry.step}'
+        return [None]
+    if is_wait(entry):
+        return [('t', end_of(entry, clock))]
+    if not is_try(entry):
+        return [('p', entry.answer)]
+    if entry.answer != 'default':
+        return [('t', entry.answer)]
+    if after and after.step == wakes:
+        return [None]
+    # While a chapter is handed out, another process may wake the clock.
+    return [('t', 'timed out')] + ([None] if after and is_wait(after) and not is_one else [])
+
+
+def first_unlike(own, clock, is_one, answers):
+    """How many of the answers of a process its entries tell, or None if they tell all of them."""
+    told = {0}
+    for place in range(len(own)):
+        ways = told_by(own, place, clock, is_one)
+        after = {at + (way is not None) for at in told for way in ways if way is None or answers[at:at + 1] == [way]}
+        if not after:
+            return max(told)
+        told = after
+    return None if len(answers) in told else max(told)
 
 
 def faults_of_clock(entries, clock, at_once):
@@ -132,10 +145,9 @@ def main(words):
         kind, pid, what = line.split(' ', 2)
         told.setdefault(int(pid), []).append((kind, what))
     for pid, answers in told.items():
-        replayed = list(told_of(own.get(pid, []), clock))
-        if answers != replayed:
-            first = next((pair for pair in zip(answers, replayed) if pair[0] != pair[1]), 'one has more')
-            wrong.append(f'process {pid}: {first}')
+        unlike = first_unlike(own.get(pid, []), clock, is_one, answers)
+        if unlike is not None:
+            wrong.append(f'process {pid}: its answer {unlike}, {answers[unlike:unlike + 1]}')
     kinds = [what for answers in told.values() for kind, what in answers if kind == 't']
     waits = sum(1 for entry, _ in entries if entry.pid != clock and is_wait(entry))
     print(f'{len(kinds)} calls with deadlines, of which {waits} waited and {kinds.count("timed out")} timed out; {len(wrong)} wrong')

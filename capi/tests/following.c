@@ -4,7 +4,7 @@
  *     following alone     by one thread: turns, the end, and why a journal is refused
  *     following threads   the random runs
  */
-#include "tally.h"
+#include "runs.h"
 
 #include <pthread.h>
 #include <stdlib.h>
@@ -12,18 +12,6 @@
 enum { SECONDS = 300, PROCS = 5, CALLS = 40, PORTS = 3, RUNS = 200, MOST_CASES = 3 };
 
 static const char *const JOURNAL = "chanhub journal 2\nprocs 2\n0 make 0\n1 recv 1\n0 send 1 9\n0 close 1\n";
-
-static chanhub *follows(const char *journal, bool goes_on) {
-    chanhub *hub;
-    chanhub_options options = { .journal = journal, .journal_length = strlen(journal), .goes_on = goes_on };
-    is("opened", chanhub_open_with(&hub, &options), 0);
-    return hub;
-}
-
-static void is_diverged(const char *name, chanhub_told t, int step) {
-    is_fault(name, t, CHANHUB_DIVERGED);
-    is(name, (long long)t.value.number, step);
-}
 
 /* The turns of two processes, and a hub that goes on after the journal's end. */
 static void turns(void) {
@@ -158,11 +146,6 @@ struct process {
     chanhub_told told[CALLS + 2];
 };
 
-static uint32_t draw(uint32_t *seed, uint32_t most) {
-    *seed = *seed * 1664525 + 1013904223;
-    return (*seed >> 8) % most;
-}
-
 static chanhub_told random_call(struct process *p) {
     chanhub_case cases[MOST_CASES];
     uint32_t dice = draw(&p->seed, 100), port = 1 + draw(&p->seed, PORTS), number = draw(&p->seed, 1000);
@@ -197,11 +180,6 @@ static void run_all(chanhub *hub, uint32_t seed, struct process processes[PROCS]
         pthread_create(&threads[pid], NULL, run_process, &processes[pid]);
     }
     for (unsigned pid = 0; pid < PROCS; pid++) pthread_join(threads[pid], NULL);
-}
-
-static bool same_told(chanhub_told a, chanhub_told b) {
-    return a.what == b.what && a.fault == b.fault && a.index == b.index && a.port == b.port && a.value.number == b.value.number &&
-           a.value.is_bytes == b.value.is_bytes && a.value.length == b.value.length && memcmp(a.value.bytes, b.value.bytes, 32) == 0;
 }
 
 /* How many of the first calls of a process were told the same. */

@@ -182,6 +182,43 @@ static int run_timed(long allowed) {
     return cancels != CALLS || exits != 1;
 }
 
+/* The journal of a hub whose calls have deadlines, recorded while nothing is refused: all of them time out. */
+enum { TIMED_CALLS = 60 };
+static chanhub_options timed;
+
+static int record_timed(void) {
+    chanhub_options options = { .procs = 1, .clock = true };
+    chanhub *hub;
+    left = -1;
+    if (chanhub_open_with(&hub, &options)) return 1;
+    for (int i = 0; i < TIMED_CALLS; i++) {
+        if (chanhub_recv_until(hub, 0, 0, i % 2 ? 0 : chanhub_in(1000)).what != CHANHUB_TIMED_OUT) return 1;
+    }
+    if (chanhub_exit(hub, 0).what != CHANHUB_DONE) return 1;
+    timed.journal = chanhub_journal(hub, &timed.journal_length);
+    chanhub_free(hub);
+    return !timed.journal;
+}
+
+/* A hub follows it. A call that is refused memory is made again. If the clock is refused it, all later calls are told DIVERGED. */
+static int run_timed_following(long allowed) {
+    chanhub *hub;
+    bool has_ended = false;
+    refused = 0;
+    left = allowed;
+    int why = chanhub_open_with(&hub, &timed);
+    if (why && (why != 3 || hub || chanhub_open_with(&hub, &timed))) return 1;
+    for (int i = 0; i < TIMED_CALLS; i++) {
+        chanhub_told t = chanhub_recv_until(hub, 0, 0, CHANHUB_NEVER - 1);
+        if (is_short(t)) t = chanhub_recv_until(hub, 0, 0, CHANHUB_NEVER - 1);
+        has_ended = has_ended || (refused && t.fault == CHANHUB_DIVERGED);
+        if (has_ended ? t.fault != CHANHUB_DIVERGED : t.what != CHANHUB_TIMED_OUT) return 1;
+    }
+    if (chanhub_exit(hub, 0).what != (has_ended ? CHANHUB_FAULT : CHANHUB_DONE)) return 1;
+    chanhub_free(hub);
+    return 0;
+}
+
 /* Runs with ever later refusals, until none comes. 0 where all went well. */
 static int refuse_each(const char *name, int (*run)(long allowed)) {
     int runs = 0, lost = 0;
@@ -201,5 +238,6 @@ int main(void) {
     int failed = refuse_each("a hub", run);
     failed |= refuse_each("a hub that follows a journal", run_following);
     failed |= refuse_each("a hub that never ends", run_endless);
+    failed |= record_timed() || refuse_each("a hub that follows a journal with a clock", run_timed_following);
     return refuse_each("a hub with a clock", run_timed) || failed;
 }

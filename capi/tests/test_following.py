@@ -6,12 +6,16 @@ import subprocess
 import sys
 import tempfile
 import threading
+import time
 import unittest
 from pathlib import Path
 
-from chanhub import Closed, Diverged, Drained, Fault, Hub, Recv, Send, Stalled
+from chanhub import Closed, Diverged, Drained, Fault, Hub, Recv, Send, Stalled, TimedOut
 
 JOURNAL = b'chanhub journal 2\nprocs 2\n0 make 0\n1 recv 1\n0 send 1 9\n0 close 1\n'
+# Process 0 first waits in vain, then not at all, and then gets a value. Process 2 is the clock.
+TIMED = (b'chanhub journal 2\nprocs 3\n2 recv 0\n0 make 0\n0 select 0 r1 default\n0 cancel 2\n0 recv 1\n2 cancel 0\n2 recv 0\n'
+         b'0 select 0 r1 default\n0 select 0 r1 default\n0 cancel 2\n0 recv 1\n1 send 1 9\n2 recv 0\n')
 
 
 class Following(unittest.TestCase):
@@ -106,6 +110,49 @@ class Following(unittest.TestCase):
             ends()
         self.assertEqual(hub.journal(), journal)
 
+    def test_timeouts_are_the_recorded_ones(self):
+        for timeout in (0, 1000):
+            hub = Hub.follow(TIMED)
+            zero, one = hub.seat(0), hub.seat(1)
+            port = zero.make(0)
+            self.assertRaises(TimedOut, zero.recv, port, timeout)
+            self.assertRaises(TimedOut, zero.recv, port, timeout)
+            received = self.in_thread(lambda: zero.recv(port, timeout))
+            one.send(port, 9)
+            self.assertEqual(received(), 9)
+            self.assertEqual(hub.journal(), TIMED)
+            self.diverges(14, zero.recv, port, timeout)
+
+    def test_timeouts_in_the_main_thread(self):
+        hub = Hub.follow(TIMED)
+        zero = hub.seat(0)
+        port = zero.make(0)
+        for _ in range(2):
+            self.assertRaises(TimedOut, zero.recv, port, 1000)
+        sent = self.in_thread(lambda: hub.seat(1).send(port, 9))
+        self.assertEqual(zero.recv(port, 0), 9)
+        sent()
+        self.assertRaises(Fault, hub.seat(2).recv, port)  # the clock
+
+    def test_timeouts_of_a_hub_that_goes_on(self):
+        with Hub.follow(TIMED, goes_on=True) as hub:
+            zero, one = hub.seat(0), hub.seat(1)
+            port = zero.make(0)
+            for _ in range(2):
+                self.assertRaises(TimedOut, zero.recv, port, 1000)
+            waits = self.in_thread(lambda: zero.recv(port, 0.01))
+            while hub.journal().count(b'\n0 recv 1\n') < 2:
+                time.sleep(0.001)
+            time.sleep(0.02)
+            self.diverges(12, one.send, port, 8)
+            self.assertRaises(TimedOut, waits)
+            began = time.monotonic()
+            self.assertRaises(TimedOut, one.recv, port, 0.02)
+            self.assertGreaterEqual(time.monotonic() - began, 0.02)
+            stalls = self.in_thread(lambda: zero.recv(port))
+            self.assertRaises(Stalled, one.recv, port)
+            self.assertRaises(Stalled, stalls)
+
     def objects(self, opens):
         """Two threads that send objects, and a third process that receives them."""
         with opens() as hub:
@@ -127,6 +174,41 @@ class Following(unittest.TestCase):
         for _ in range(20):
             got, journal = self.objects(lambda: Hub(3, objects=True))
             self.assertEqual(self.objects(lambda: Hub.follow(journal, objects=True)), (got, journal))
+
+    def timed_objects(self, opens, timeout):
+        """A thread that sends objects, of which some are not received in time, and one that receives them."""
+        with opens() as hub:
+            zero, one = hub.seat(0), hub.seat(1)
+            port = zero.make(1)
+            told = []
+
+            def receives():
+                with one:
+                    for _ in range(20):
+                        try:
+                            told.append(one.recv(port, timeout))
+                        except TimedOut:
+                            told.append(None)
+            ends = self.in_thread(receives)
+            for number in range(20):
+                try:
+                    zero.send(port, ['object', number], timeout)
+                except TimedOut:
+                    told.append(number)
+            ends()
+            zero.exit()
+            return told, hub.journal()
+
+    def test_objects_and_timeouts(self):
+        passed = 0
+        for _ in range(20):
+            told, journal = self.timed_objects(lambda: Hub(2, objects=True, timeouts=True), 0.0001)
+            again, same = self.timed_objects(lambda: Hub.follow(journal, objects=True), 1000)
+            # Each thread has its order, and both have one list.
+            self.assertEqual(sorted(map(repr, again)), sorted(map(repr, told)))
+            self.assertEqual(same, journal)
+            passed += journal.count(b'\n2 cancel ')
+        self.assertGreater(passed, 0)
 
     def test_end_of_the_block(self):
         with Hub.follow(JOURNAL) as hub:

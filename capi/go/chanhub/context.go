@@ -12,7 +12,8 @@ import (
 // SendContext is like [Seat.Send], but gives up once the context is done. It then returns ctx.Err(), and the value was not sent. The hub
 // must be opened with [Options].Timeouts; on any other, SendContext returns [FaultBadCall].
 //
-// If the context is done before the call, SendContext makes none. If it can never be done, as [context.Background], it is like Send.
+// If the context is done before the call, SendContext still sends the value if that needs no wait. If it can never be done, as
+// [context.Background], SendContext is like Send.
 func (s *Seat) SendContext(ctx context.Context, port Port, value Value) error {
 	_, err := s.callUntil(ctx, 0, []Case{SendCase(port, value)})
 	return err
@@ -32,9 +33,6 @@ func (s *Seat) SelectContext(ctx context.Context, word uint64, cases ...Case) (i
 
 // callUntil makes a call of these cases, which ends at the latest when the context is done.
 func (s *Seat) callUntil(ctx context.Context, word uint64, cases []Case) (told, error) {
-	if err := ctx.Err(); err != nil {
-		return told{}, err
-	}
 	first, count := rawCases(cases)
 	told, err := s.call(func(hub *C.chanhub, pid C.uint) C.chanhub_told {
 		told := C.chanhub_begin_until(hub, pid, first, count, false, C.uint64_t(word), deadlineOf(ctx))
@@ -45,16 +43,30 @@ func (s *Seat) callUntil(ctx context.Context, word uint64, cases []Case) (told, 
 		}
 		return told
 	})
-	if err == context.DeadlineExceeded && ctx.Err() != nil {
-		err = ctx.Err()
+	if err == context.DeadlineExceeded {
+		err = errorOf(ctx)
 	}
 	return told, err
+}
+
+// errorOf returns the error of a context because of which a call gave up. In a hub that follows a journal it may not be done yet.
+func errorOf(ctx context.Context) error {
+	if err := ctx.Err(); err != nil {
+		return err
+	}
+	if _, hasDeadline := ctx.Deadline(); !hasDeadline {
+		return context.Canceled
+	}
+	return context.DeadlineExceeded
 }
 
 // deadlineOf returns the library's time at which the context is done. If it has no deadline but may be cancelled, that is a time far off.
 func deadlineOf(ctx context.Context) C.uint64_t {
 	if ctx.Done() == nil {
 		return math.MaxUint64
+	}
+	if ctx.Err() != nil {
+		return 0
 	}
 	deadline, hasDeadline := ctx.Deadline()
 	if !hasDeadline {

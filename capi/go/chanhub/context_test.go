@@ -72,7 +72,7 @@ func TestContextsOfSeats(t *testing.T) {
 	isError(t, "a deadlock without an end to the context", err, chanhub.ErrStalled)
 }
 
-// A context that is done makes no step, and one without a deadline can be cancelled.
+// A context without a deadline can be cancelled. With one that is done, a call is made if it needs no wait.
 func TestContextsThatAreCancelled(t *testing.T) {
 	hub := timed(t, 1)
 	seat := hub.Seat(0)
@@ -85,10 +85,15 @@ func TestContextsThatAreCancelled(t *testing.T) {
 	}
 	before, _ := hub.Journal()
 	cancel()
-	_, err := seat.RecvContext(ctx, 0)
+	port, err := seat.Make(1)
+	isError(t, "make", err, nil)
+	_, err = seat.RecvContext(ctx, port)
 	isError(t, "receive", err, context.Canceled)
-	if after, _ := hub.Journal(); string(after) != string(before) {
-		t.Error("a context that was done made a step")
+	isError(t, "send", seat.SendContext(ctx, port, chanhub.Number(7)), nil)
+	isError(t, "full", seat.SendContext(ctx, port, chanhub.Number(8)), context.Canceled)
+	after, _ := hub.Journal()
+	if wanted := "0 make 1\n0 select 0 r1 default\n0 select 0 s1:7 default\n0 select 0 s1:8 default\n"; string(after) != string(before)+wanted {
+		t.Errorf("found %s", after[len(before):])
 	}
 }
 

@@ -52,8 +52,10 @@ func (e JournalError) Error() string {
 // Then the hub ends: all calls return the same, also those that wait. If goesOn is true, it goes on as a hub that follows nothing instead;
 // once all of the journal is made, it then makes any call.
 //
-// A process that never makes its next step holds up all whose turn is later. The journals of hubs with Timeouts, and chapters, cannot be
-// followed.
+// If the hub of the journal had Timeouts, a call with a context gives up if, and only if, it did there, whatever time it is now, and whether
+// or not its context is done. It then returns the error of its context, or what that will be. Once the hub goes on freely, contexts count.
+//
+// A process that never makes its next step holds up all whose turn is later. Chapters cannot be followed.
 //
 // Follow returns a [JournalError] if the journal cannot be followed, and [ErrMemory] if memory runs out.
 func Follow(journal []byte, goesOn bool) (*Hub, error) {
@@ -63,7 +65,11 @@ func Follow(journal []byte, goesOn bool) (*Hub, error) {
 	refusal := C.follow(&at, (*C.char)(unsafe.Pointer(&text[0])), C.size_t(len(journal)), C.bool(goesOn), &line)
 	switch refusal {
 	case 0:
-		return &Hub{at: at, calling: make([]int, procsOf(journal))}, nil
+		procs := procsOf(journal)
+		if C.chanhub_has_clock(at) {
+			procs-- // the clock is nobody's
+		}
+		return &Hub{at: at, calling: make([]int, procs)}, nil
 	case 5, 6:
 		return nil, JournalError{Line: int(line), IsMalformed: refusal == 5}
 	}

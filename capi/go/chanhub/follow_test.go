@@ -2,10 +2,13 @@ package chanhub_test
 
 import (
 	"bytes"
+	"context"
 	"errors"
+	"fmt"
 	"reflect"
 	"sync"
 	"testing"
+	"time"
 
 	"chanhub/chanhub"
 )
@@ -92,6 +95,76 @@ func TestDivergences(t *testing.T) {
 	port, err = hub.Seat(0).Make(1)
 	isError(t, "make", err, nil)
 	isError(t, "goes on", hub.Seat(0).Send(port, chanhub.Number(1)), nil)
+}
+
+// timesOut has two processes send and two receive, with contexts some of which are soon done. It returns what each was told, and the journal.
+func timesOut(t *testing.T, hub *chanhub.Hub, longest time.Duration) (told [4][]string, journal []byte) {
+	t.Helper()
+	port, err := hub.Seat(0).Make(0)
+	isError(t, "make", err, nil)
+	var group sync.WaitGroup
+	for pid := 0; pid < 4; pid++ {
+		group.Add(1)
+		go func(pid int) {
+			defer group.Done()
+			seat := hub.Seat(pid)
+			for i := 0; i < 30; i++ {
+				ctx, stop := context.WithTimeout(context.Background(), longest*time.Duration((i+pid)%4)/4)
+				var value chanhub.Value
+				var err error
+				if pid < 2 {
+					err = seat.SendContext(ctx, port, chanhub.Number(uint64(100*pid+i)))
+				} else {
+					value, err = seat.RecvContext(ctx, port)
+				}
+				stop()
+				number, _ := value.Number()
+				told[pid] = append(told[pid], fmt.Sprint(number, err))
+			}
+			isError(t, "exit", seat.Exit(), nil)
+		}(pid)
+	}
+	group.Wait()
+	journal, err = hub.Journal()
+	isError(t, "journal", err, nil)
+	return told, journal
+}
+
+// Each call is told the same again, whenever its context is done.
+func TestFollowedContexts(t *testing.T) {
+	gaveUp := 0
+	for i := 0; i < 40; i++ {
+		told, journal := timesOut(t, timed(t, 4), 400*time.Microsecond)
+		for _, longest := range []time.Duration{0, time.Hour} {
+			again, same := timesOut(t, follow(t, journal, false), longest)
+			if !reflect.DeepEqual(told, again) || !bytes.Equal(journal, same) {
+				t.Fatalf("another run: %v and %v", told, again)
+			}
+		}
+		gaveUp += bytes.Count(journal, []byte("\n4 cancel "))
+	}
+	if gaveUp < 40 {
+		t.Errorf("%d calls gave up after a wait", gaveUp)
+	}
+}
+
+// A context that was cancelled, though it is not now; and contexts count once the hub goes on.
+func TestContextsOfAFollowedHub(t *testing.T) {
+	const journal = "chanhub journal 2\nprocs 2\n1 recv 0\n0 select 0 r0 default\n0 cancel 1\n0 recv 0\n1 cancel 0\n1 recv 0\n"
+	hub := follow(t, []byte(journal), true)
+	seat := hub.Seat(0)
+	ctx, cancel := context.WithCancel(context.Background())
+	_, err := seat.RecvContext(ctx, 0)
+	isError(t, "cancelled", err, context.Canceled)
+	_, err = seat.RecvContext(in(t, 5*time.Millisecond), 0)
+	isError(t, "the deadline", err, context.DeadlineExceeded)
+	time.AfterFunc(5*time.Millisecond, cancel)
+	_, err = seat.RecvContext(ctx, 0)
+	isError(t, "cancelled", err, context.Canceled)
+	_, err = seat.Recv(0)
+	isError(t, "a deadlock", err, chanhub.ErrStalled)
+	_, err = hub.Seat(1).Recv(0)
+	isError(t, "the clock is nobody's", err, chanhub.FaultNoProcess)
 }
 
 func TestCloseOfAFollowedHub(t *testing.T) {

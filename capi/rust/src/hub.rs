@@ -390,8 +390,11 @@ impl Hub {
     /// made. Then the hub ends: all calls return the same, also those that wait. If `goes_on` is true, it goes on as a hub that follows
     /// nothing instead; once all of the journal is made, it then makes any call.
     ///
+    /// If the hub of the journal had [timeouts](crate::Builder::timeouts), calls take them. A call times out if, and only if, it did
+    /// there, whatever time it is now. Timeouts count again once the hub goes on freely.
+    ///
     /// A process that never makes its next step holds up all whose turn is later. A seat that is dropped exits its process, which is a
-    /// step too. The journals of hubs with timeouts, and chapters, cannot be followed.
+    /// step too. Chapters cannot be followed.
     ///
     /// # Examples
     ///
@@ -428,8 +431,10 @@ impl Hub {
             refusal => opened(refusal, OpenError::Limit)?,
         }
         let procs = journal.split_whitespace().nth(4).map(str::parse);
-        let procs = procs.expect("the second head line").expect("a number");
-        Ok(Hub::seated(at, procs, false, None))
+        let procs: u8 = procs.expect("the second head line").expect("a number");
+        // SAFETY: the hub has just been opened.
+        let clocks = u8::from(unsafe { sys::chanhub_has_clock(at) });
+        Ok(Hub::seated(at, procs - clocks, false, None))
     }
 
     /// Opens a hub as these options say, except for who gets the chapters: that is the handler.

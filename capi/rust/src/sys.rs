@@ -127,6 +127,7 @@ extern "C" {
         pointer: *mut c_void,
     ) -> c_int;
     pub fn chanhub_open_with(hub: *mut *mut Chanhub, options: *const Options) -> c_int;
+    pub fn chanhub_has_clock(hub: *const Chanhub) -> bool;
     pub fn chanhub_free(hub: *mut Chanhub);
     pub fn chanhub_make(hub: *mut Chanhub, pid: c_uint, cap: u32) -> Told;
     pub fn chanhub_send(hub: *mut Chanhub, pid: c_uint, port: c_uint, value: Value) -> Told;

@@ -2,6 +2,7 @@
 
 use chanhub::{Edition, Ended, Fault, Hub, OpenError, Seat};
 use std::thread;
+use std::time::{Duration, Instant};
 
 const JOURNAL: &str =
     "chanhub journal 2\nprocs 2\n0 make 0\n1 recv 1\n0 send 1 9\n0 close 1\n0 exit\n1 exit\n";
@@ -66,6 +67,59 @@ fn a_hub_goes_on() {
     let (sender, receiver) = seat.channel(1).unwrap();
     assert_eq!(sender.send(&mut seat, 5), Ok(()));
     assert_eq!(receiver.recv(&mut seat).unwrap().number(), Some(5));
+}
+
+/// Two threads that send and two that receive, with timeouts of at most so long. Returns what each was told.
+fn times_out(seats: Vec<Seat>, longest: Duration) -> Vec<Vec<Result<u64, Ended>>> {
+    let mut seats = seats;
+    let (sender, receiver) = seats[0].channel(0).unwrap();
+    let call = move |seat: &mut Seat, pid: u64, i: u64| {
+        let timeout = longest * ((i + pid) % 4) as u32 / 4;
+        if pid < 2 {
+            sender.send_timeout(seat, 100 * pid + i, timeout).map(|()| 0)
+        } else {
+            let value = receiver.recv_timeout(seat, timeout)?;
+            Ok(value.number().unwrap())
+        }
+    };
+    let threads: Vec<_> = seats
+        .into_iter()
+        .zip(0..)
+        .map(|(mut seat, pid)| thread::spawn(move || (0..30).map(|i| call(&mut seat, pid, i)).collect()))
+        .collect();
+    threads.into_iter().map(|thread| thread.join().unwrap()).collect()
+}
+
+#[test]
+fn timeouts_are_repeated() {
+    let mut waits = 0;
+    for _ in 0..40 {
+        let (hub, seats) = Hub::builder(4).timeouts().open().unwrap();
+        let told = times_out(seats, Duration::from_micros(400));
+        let journal = hub.journal().unwrap();
+        for longest in [Duration::ZERO, Duration::from_secs(3600)] {
+            let (hub, seats) = Hub::follow(&journal, false).unwrap();
+            assert_eq!(times_out(seats, longest), told);
+            assert_eq!(hub.journal().unwrap(), journal);
+        }
+        waits += journal.matches("\n4 cancel ").count();
+    }
+    assert!(waits > 40, "{waits} calls timed out after a wait");
+}
+
+#[test]
+fn timeouts_count_once_a_hub_goes_on() {
+    let journal = "chanhub journal 2\nprocs 2\n1 recv 0\n0 make 0\n0 select 0 r1 default\n0 cancel 1\n0 recv 1\n1 cancel 0\n";
+    let (_hub, mut seats) = Hub::follow(journal, true).unwrap();
+    assert_eq!(seats.len(), 1, "the clock has no seat");
+    let mut seat = seats.remove(0);
+    let (_sender, receiver) = seat.channel(0).unwrap();
+    let told = receiver.recv_timeout(&mut seat, Duration::from_secs(3600));
+    assert_eq!(told, Err(Ended::TimedOut));
+    let began = Instant::now();
+    let told = receiver.recv_timeout(&mut seat, Duration::from_millis(5));
+    assert_eq!(told, Err(Ended::TimedOut));
+    assert!(began.elapsed() >= Duration::from_millis(5));
 }
 
 #[test]

@@ -1,7 +1,9 @@
-/* Hubs that follow a journal which was recorded with a clock, by one thread: each step and each answer, worked by hand. A test
- * that hangs is ended by an alarm.
+/* Hubs that follow a journal which was recorded with a clock: each step and each answer, worked by hand. A test that hangs is ended by an
+ * alarm.
  */
 #include "runs.h"
+
+#include <pthread.h>
 
 enum { SECONDS = 60 };
 
@@ -132,6 +134,36 @@ static void divergences(void) {
     chanhub_free(hub);
 }
 
+/* A thread waits with a deadline that has passed when the hub begins to go on. */
+static void *waits(void *hub) {
+    is("timed out", chanhub_recv_until(hub, 0, 1, 0).what, CHANHUB_TIMED_OUT);
+    return NULL;
+}
+
+static void a_thread_waits(void) {
+    pthread_t thread;
+    chanhub *hub = begun(BEGINNING "0 select 0 r1 default\n0 cancel 2\n0 recv 1\n1 send 1 7\n2 recv 0\n", true);
+    pthread_create(&thread, NULL, waits, hub);
+    await_entries(hub, 5);
+    usleep(20000);
+    is_diverged("another value", chanhub_send(hub, 1, 1, chanhub_number(8)), 6);
+    pthread_join(thread, NULL);
+    chanhub_free(hub);
+}
+
+/* A call has a deadline, and the one in its place had none, since the clock waited beside it: the deadline does not count. */
+static void no_deadline_before(void) {
+    chanhub *hub = begun(BEGINNING "0 select 0 r1 default\n0 cancel 2\n0 recv 1\n1 recv 1\n2 cancel 0\n2 recv 0\n", true);
+    is("waits", begin_recv(hub, 0, 0).what, CHANHUB_WAITING);
+    is("waits", begin_recv(hub, 1, 0).what, CHANHUB_WAITING);
+    is("timed out", chanhub_resume(hub, 0, 0).what, CHANHUB_TIMED_OUT);
+    chanhub_told t = chanhub_resume(hub, 1, MILLISECOND);
+    is("waits", t.what, CHANHUB_WAITING), is("without a fault", t.fault, 0);
+    is("stalled", chanhub_recv(hub, 0, 1).what, CHANHUB_STALLED);
+    is("stalled", chanhub_resume(hub, 1, 0).what, CHANHUB_STALLED);
+    chanhub_free(hub);
+}
+
 /* Behind the end of a journal: deadlines count from its last step on. */
 static void at_the_end(void) {
     chanhub *hub = begun(BEGINNING "0 select 0 r1 default\n0 cancel 2\n0 recv 1\n1 make 1\n", true);
@@ -152,6 +184,12 @@ static void at_the_end(void) {
     is("waits", begin_recv(hub, 0, FAR_OFF).what, CHANHUB_WAITING);
     is("it passes", chanhub_expire(hub, 0), 1);
     is("timed out", chanhub_resume(hub, 0, 0).what, CHANHUB_TIMED_OUT);
+    chanhub_free(hub);
+
+    hub = follows("chanhub journal 2\nprocs 3\n2 recv 0\n", true);
+    uint64_t deadline = chanhub_in(5 * MILLISECOND);
+    is("timed out", chanhub_recv_until(hub, 0, 0, deadline).what, CHANHUB_TIMED_OUT);
+    is("not too soon", chanhub_in(0) >= deadline, 1);
     chanhub_free(hub);
 
     hub = begun(BEGINNING "0 select 0 r1 default\n", false);
@@ -197,6 +235,8 @@ int main(void) {
     tries();
     several();
     divergences();
+    a_thread_waits();
+    no_deadline_before();
     at_the_end();
     openings();
     return tally("followed clock");

@@ -149,7 +149,7 @@ def main(words):
         if unlike is not None:
             wrong.append(f'process {pid}: its answer {unlike}, {answers[unlike:unlike + 1]}')
     kinds = [what for answers in told.values() for kind, what in answers if kind == 't']
-    waits = sum(1 for entry, _ in entries if entry.pid != clock and is_wait(entry))
+    waits = sum(1 for entry, _ in entries if entry.pid != clock and is_wait(entry) and entry.answer == 'parked')
     print(f'{len(kinds)} calls with deadlines, of which {waits} waited and {kinds.count("timed out")} timed out; {len(wrong)} wrong')
     print(*wrong[:5], sep='\n', end='\n' if wrong else '')
     return 1 if wrong or not waits or set(told) != set(own) - {clock} else 0

@@ -122,9 +122,10 @@ static void divergences(void) {
     is("waits", chanhub_resume(hub, 0, MILLISECOND).what, CHANHUB_WAITING);
     is_diverged("another value", chanhub_send(hub, 1, 1, chanhub_number(8)), 6);
     is("timed out", chanhub_resume(hub, 0, CHANHUB_NEVER).what, CHANHUB_TIMED_OUT);
-    uint64_t deadline = chanhub_in(5 * MILLISECOND);
-    is("timed out", chanhub_recv_until(hub, 1, 1, deadline).what, CHANHUB_TIMED_OUT);
-    is("not too soon", chanhub_in(0) >= deadline, 1);
+    is("waits", begin_recv(hub, 1, FAR_OFF).what, CHANHUB_WAITING);
+    is("waits", chanhub_resume(hub, 1, 0).what, CHANHUB_WAITING);
+    is("it passes", chanhub_expire(hub, 1), 1);
+    is("timed out", chanhub_resume(hub, 1, CHANHUB_NEVER).what, CHANHUB_TIMED_OUT);
     is("waits", begin_recv(hub, 1, CHANHUB_NEVER).what, CHANHUB_WAITING);
     is("stalled", chanhub_recv(hub, 0, 1).what, CHANHUB_STALLED);
     is("stalled", chanhub_resume(hub, 1, 0).what, CHANHUB_STALLED);

@@ -262,6 +262,20 @@ def test_passes(open_hub):
     open_hub(1).seat(0).make(1)
 '''
 
+TEST_TIMED = '''
+import os
+from chanhub import TimedOut
+
+def test_timed(open_hub):
+    hub = open_hub(procs=1, timeouts=True)
+    seat = hub.seat(0)
+    port = seat.make(1)
+    try:
+        seat.recv(port, timeout=float(os.environ['ORDER']))
+    except TimedOut:
+        assert False, 'it timed out'
+'''
+
 
 @unittest.skipUnless(importlib.util.find_spec('pytest'), 'no pytest')
 class Plugin(unittest.TestCase):
@@ -271,6 +285,16 @@ class Plugin(unittest.TestCase):
         # The one that sends second is delayed by the order in which the threads are joined.
         return subprocess.run([sys.executable, '-m', 'pytest', '-p', 'chanhub_pytest', '-p', 'no:cacheprovider', *words], cwd=folder,
                               env={**os.environ, 'PYTHONPATH': path, 'ORDER': order}, stdout=subprocess.PIPE, text=True, timeout=60)
+
+    def test_journal_with_a_timeout(self):
+        with tempfile.TemporaryDirectory() as folder:
+            Path(folder, 'test_it.py').write_text(TEST_TIMED)
+            ran = self.pytest(folder, '0.01')
+            self.assertEqual(ran.returncode, 1, ran.stdout)
+            ran = self.pytest(folder, '1000', '--chanhub-follow')
+            self.assertEqual(ran.returncode, 1, ran.stdout)
+            self.assertIn('it timed out', ran.stdout)
+            self.assertIn('followed chanhub-journals/test_it.py_test_timed.0.journal', ran.stdout)
 
     def test_journal_of_a_failing_test(self):
         with tempfile.TemporaryDirectory() as folder:

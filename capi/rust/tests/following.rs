@@ -76,7 +76,9 @@ fn times_out(seats: Vec<Seat>, longest: Duration) -> Vec<Vec<Result<u64, Ended>>
     let call = move |seat: &mut Seat, pid: u64, i: u64| {
         let timeout = longest * ((i + pid) % 4) as u32 / 4;
         if pid < 2 {
-            sender.send_timeout(seat, 100 * pid + i, timeout).map(|()| 0)
+            sender
+                .send_timeout(seat, 100 * pid + i, timeout)
+                .map(|()| 0)
         } else {
             let value = receiver.recv_timeout(seat, timeout)?;
             Ok(value.number().unwrap())
@@ -85,9 +87,14 @@ fn times_out(seats: Vec<Seat>, longest: Duration) -> Vec<Vec<Result<u64, Ended>>
     let threads: Vec<_> = seats
         .into_iter()
         .zip(0..)
-        .map(|(mut seat, pid)| thread::spawn(move || (0..30).map(|i| call(&mut seat, pid, i)).collect()))
+        .map(|(mut seat, pid)| {
+            thread::spawn(move || (0..30).map(|i| call(&mut seat, pid, i)).collect())
+        })
         .collect();
-    threads.into_iter().map(|thread| thread.join().unwrap()).collect()
+    threads
+        .into_iter()
+        .map(|thread| thread.join().unwrap())
+        .collect()
 }
 
 #[test]

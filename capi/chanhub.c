@@ -17,15 +17,16 @@
  * in the next step under the same lock, unless a chapter has to be handed out before. If the clock waits later, no stall is missed, since
  * the hub looks for one at each call that parks. While the clock is awake, a call first looks whether it is due.
  *
- * A journal tells of each call with a deadline whether it waited. One that was tried waits only if its process wakes the clock in its next
- * step, which no caller can. While the clock is awake, a call is tried only if it is not to wait, and otherwise waits without a try.
+ * A journal tells of each call with a deadline whether it waited. One that was tried waits only if its process wakes the clock
+ * in its next step, which no caller can. While the clock is awake, a call is tried only if it is not to wait, and otherwise
+ * waits without a try.
  *
  * A hub that follows a journal makes a step only in its turn. A call whose turn has not come waits at its place. After each step the
  * thread that made it wakes the process whose step is next; once there is none, since the hub has diverged or all is made, it wakes all.
  * If the hub ends then, each call is told so, also those that wait for an answer.
  *
- * If the clock's steps are next in that journal, the thread that made the step before makes them too, before it lets go of the lock. So
- * nobody ever waits for the clock. No deadline is looked at until the hub no longer follows.
+ * If the clock's steps are next in that journal, the thread that made the step before makes them too, before it lets go of the
+ * lock. So nobody ever waits for the clock. No deadline is looked at until the hub no longer follows.
  *
  * A look takes no lock, but for the first at each port. From then on, whoever makes a step that may change the port's counts asks the hub
  * for them before it lets go of the lock, and shows them in one atomic word. So a look gives the counts that the hub told after one
@@ -111,7 +112,7 @@ struct chanhub {
     pthread_mutex_t lock;
     uint64_t open;              /* whose call is open: it has parked, and its answer is not picked up */
     uint64_t awaited;           /* for whose answer a thread waits now */
-    uint64_t timed;             /* whose call with a deadline waits in the hub, or is about to; nobody's while the clock waits too */
+    uint64_t timed;             /* whose call with a deadline waits in the hub, or is about to; nobody's while the clock waits */
     uint64_t timed_out;         /* whose call the clock cancelled; its answer is not picked up */
     uint64_t watched;           /* whose calls look at the clock first: all while it is awake, and its own */
     uint8_t clock;              /* the number of the clock; NOBODY where there is none */
@@ -147,8 +148,8 @@ static inline uint64_t only_port(unsigned port) {
     return port - 1 < MOST_PORTS ? (uint64_t)1 << (port - 1) : 0;
 }
 
-/* Notes what the clock is at. Holds the lock. Where the clock waits, no call that waits has a deadline that counts: otherwise the program
- * gives one to a call that had none in the journal that the hub follows. */
+/* Notes what the clock is at. Holds the lock. Where the clock waits, no call that waits has a deadline that counts: otherwise
+ * the program gives one to a call that had none in the journal that the hub follows. */
 static void set_clock(chanhub *h, enum clock clock_is) {
     h->clock_is = clock_is;
     if (clock_is != AWAKE) h->timed = 0;
@@ -601,8 +602,8 @@ static bool wait_for_turn(chanhub *h, unsigned pid, uint64_t end) {
     return has_time;
 }
 
-/* Wakes the process whose step is next, or all if there is none. Then a hub that goes on no longer follows, and deadlines count, so those
- * that wait with one have to look at it. */
+/* Wakes the process whose step is next, or all if there is none. Then a hub that goes on no longer follows, and deadlines count,
+ * so those that wait with one have to look at it. */
 static void wake_turns(chanhub *h) {
     uint64_t next = hub_c_next(&h->hub), woken = next ? h->turns & next : h->turns;
     h->turns &= ~woken;
@@ -787,8 +788,8 @@ static void step_clock_again(chanhub *h, struct told *t) {
     else cancel_by_clock(h, step, t);
 }
 
-/* Makes the clock's steps that are due, within a call of this process: more than one if its wait brings a stall. If it is refused memory,
- * it is still due afterwards, or a hub that follows a journal ends, since other threads may wait for that step. */
+/* Makes the clock's steps that are due, within a call of this process: more than one if its wait brings a stall. If it is
+ * refused memory, it is still due afterwards; a hub that follows a journal ends, since other threads may wait for that step. */
 static void settle_clock(chanhub *h, unsigned pid) {
     while (is_clock_due(h)) {
         struct told t = { 0 };
@@ -836,8 +837,8 @@ static uint8_t wake_clock(chanhub *h, unsigned pid) {
     return h->clock_is == AWAKE ? 0 : CHANHUB_NO_MEMORY;
 }
 
-/* Gets ready for a call of this process that was tried and is to wait. Returns what refuses it, or 0: then there is a step for the call and
- * one to end it, and the clock is awake. */
+/* Gets ready for a call of this process that was tried and is to wait. Returns what refuses it, or 0: then there is a step for
+ * the call and one to end it, and the clock is awake. */
 static uint8_t begin_deadline(chanhub *h, unsigned pid) {
     uint64_t steps = h->clock_is == ASLEEP ? 3 : 2;
     if (steps_left(h) < steps) return CHANHUB_JOURNAL_FULL;
@@ -845,8 +846,8 @@ static uint8_t begin_deadline(chanhub *h, unsigned pid) {
     return wake_clock(h, pid);
 }
 
-/* Whether a call of this process is to wait without a try, if it has to: while the clock is awake, unless the deadline has passed, or there
- * are no steps to wait and to end it. A journal that is followed says what the call did. */
+/* Whether a call of this process is to wait without a try, if it has to: while the clock is awake, unless the deadline has
+ * passed, or there are no steps to wait and to end it. A journal that is followed says what the call did. */
 static bool waits_untried(chanhub *h, unsigned pid) {
     if (h->follows) {
         uint8_t next = next_step(h, pid);
@@ -855,8 +856,8 @@ static bool waits_untried(chanhub *h, unsigned pid) {
     return h->clock_is == AWAKE && steps_left(h) >= 2 && !has_passed(h->places[pid].deadline);
 }
 
-/* Whether a call of this process that was tried in vain is to wait: until its deadline, or as a journal says that was followed at the
- * try, where its process then wakes the clock. */
+/* Whether a call of this process that was tried in vain is to wait: until its deadline, or as a journal says that was followed
+ * at the try, where its process then wakes the clock. */
 static bool waits_when_tried(chanhub *h, unsigned pid, bool followed) {
     return followed ? next_step(h, pid) == h->clock : !has_passed(h->places[pid].deadline);
 }
@@ -1027,8 +1028,8 @@ chanhub_told chanhub_begin(chanhub *h, unsigned pid, const chanhub_case *cases, 
     return select_for(h, pid, cases, count, has_default, word, 0);
 }
 
-/* Ends a call with a deadline whose step came to this. It no longer has one unless it waits. Holds the lock since the step, and leaves
- * it. */
+/* Ends a call with a deadline whose step came to this. It no longer has one unless it waits. Holds the lock since the step, and
+ * leaves it. */
 static chanhub_told finish_timed(chanhub *h, unsigned pid, const struct told *t, uint64_t nanoseconds) {
     if (t->it.what != CHANHUB_WAITING || h->clock_is != AWAKE) h->timed &= ~only(pid);
     return finish_by_waking(h, (uint8_t)pid, t, nanoseconds);
@@ -1045,8 +1046,8 @@ static chanhub_told wait_with_deadline(chanhub *h, unsigned pid, const chanhub_c
     return finish_timed(h, pid, &t, nanoseconds);
 }
 
-/* A select with a deadline. It is tried first, with a default, unless it is to wait without. A call that was tried in the place that a
- * journal has, and then was refused memory, goes on from there. */
+/* A select with a deadline. It is tried first, with a default, unless it is to wait without. A call that was tried in the place
+ * that a journal has, and then was refused memory, goes on from there. */
 static chanhub_told select_until(chanhub *h, unsigned pid, const chanhub_case *cases, size_t count, bool has_default, uint64_t word,
                                  uint64_t deadline, uint64_t nanoseconds) {
     struct told t = { 0 };

@@ -1,8 +1,8 @@
 /* The entries of a journal that was recorded with a clock, read from its text.
  *
- * The clock is the last process. The journal begins with its wait on port 0, since the opening of the hub makes that step. It makes no
- * other steps but such waits, cancels and its exit. No other journal of edition 2 begins so, unless its last process only waits on port 0,
- * cancels and exits, and does the former before all other steps.
+ * The clock is the last process. The journal begins with its wait on port 0, since the opening of the hub makes that step. It
+ * makes no other steps but such waits, cancels and its exit. No other journal of edition 2 begins so, unless its last process
+ * only waits on port 0, cancels and exits, and does the former before all other steps.
  */
 #include "recorded.h"
 

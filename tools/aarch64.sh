@@ -27,7 +27,8 @@ put_together() {
     for source in chanhub files heap recorded texts; do
         $cc -O2 -std=c11 -Wall -Wextra -Werror -fPIC -c "$source.c" -o "$out/$source.o" || return
     done
-    aarch64-linux-gnu-ld -r -o "$out/whole.o" "$out/chanhub.o" "$out/files.o" "$out/heap.o" "$out/recorded.o" "$out/texts.o" --whole-archive "$out/libhub_c.a" &&
+    aarch64-linux-gnu-ld -r -o "$out/whole.o" "$out/chanhub.o" "$out/files.o" "$out/heap.o" "$out/recorded.o" "$out/texts.o" \
+        --whole-archive "$out/libhub_c.a" &&
         aarch64-linux-gnu-objcopy --wildcard --keep-global-symbol='chanhub_*' "$out/whole.o" && rm -f "$out/libchanhub.a" &&
         aarch64-linux-gnu-ar rcs "$out/libchanhub.a" "$out/whole.o"
 }

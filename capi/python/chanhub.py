@@ -640,8 +640,8 @@ def _open_following(journal: bytes, goes_on: bool) -> ctypes.c_void_p:
 
 
 def _numbers_sent(journal: bytes, clock: Optional[int]) -> Dict[int, Iterator[int]]:
-    """Returns the numbers that each process sends in a journal, in order, also those of the cases of its selects. A call that wakes the
-    clock has them twice there, and once here."""
+    """Returns the numbers that each process sends in a journal, in order, also those of the cases of its selects. A call that
+    wakes the clock has them twice there, and once here."""
     sent: Dict[int, List[int]] = {}
     wakes = None
     for line in journal.decode().splitlines()[2:]:
@@ -746,9 +746,9 @@ class Hub:
 
         A process that never makes its next step holds up all whose turn is later. When a `with Hub` block ends, they raise Diverged.
 
-        With `objects`, which the hub of the journal must have had, a value is any object, as in such a hub. If that hub had `timeouts`,
-        calls take them. A call raises TimedOut if, and only if, it did in the journal's run, whatever time it is now. Timeouts count again
-        once the hub goes on freely.
+        With `objects`, which the hub of the journal must have had, a value is any object, as in such a hub. If that hub had
+        `timeouts`, calls take them. A call raises TimedOut if, and only if, it did in the journal's run, whatever time it is now.
+        Timeouts count again once the hub goes on freely.
 
         Raises ValueError if the journal is malformed, or has a step that is not admitted in its turn. MemoryError if memory runs out.
         """

@@ -12,8 +12,8 @@ there raises Diverged.
     pytest -k test_pool                         # it fails once in a hundred times
     pytest -k test_pool --chanhub-follow        # now always, until the program does something else
 
-pytest finds the plugin if chanhub is installed; otherwise give it `-p chanhub_pytest`. Hubs with `keep` are not kept: a chapter cannot be
-followed.
+pytest finds the plugin if chanhub is installed; otherwise give it `-p chanhub_pytest`. Hubs with `keep` are not kept: a chapter
+cannot be followed.
 """
 from __future__ import annotations
 

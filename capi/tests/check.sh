@@ -190,7 +190,8 @@ printf 'timed out\ngot 9\n' > "$work/times"
 printf 'stalled: 0 recv 2\nstalled: 1 recv 1\n' > "$work/stalled"
 printf 'got 5\nneither\nsent\n' > "$work/choice-lines"
 
-for test in calls conveniences crew threads memory endless handing chapters files soak steps deadlines following followed_clock followed_runs; do
+for test in calls conveniences crew threads memory endless handing chapters files soak steps deadlines following followed_clock \
+    followed_runs; do
     check "$test builds" "$cc" $flags "tests/$test.c" out/libchanhub.a -lpthread -o "$work/$test"
 done
 check 'resume builds' "$cc" $flags -Wl,--wrap=clock_gettime tests/resume.c out/libchanhub.a -lpthread -o "$work/resume"
@@ -286,7 +287,8 @@ if echo 'int main(void) { return 0; }' | "$cc" -fsanitize=thread -x c - -o "$wor
     sanitize="$flags -g -fsanitize=thread"
     # The library once, for all of them.
     sanitized="$work/sanitized.o $proved -lpthread"
-    check 'the library builds for the thread sanitizer' "$cc" $sanitize -r -nostdlib chanhub.c files.c heap.c recorded.c texts.c -o "$work/sanitized.o"
+    check 'the library builds for the thread sanitizer' "$cc" $sanitize -r -nostdlib chanhub.c files.c heap.c recorded.c texts.c \
+        -o "$work/sanitized.o"
     for test in crew threads handing chapters soak deadlines following followed_runs; do
         check "$test builds for the thread sanitizer" "$cc" $sanitize "tests/$test.c" $sanitized -o "$work/sanitized-$test"
     done
@@ -322,7 +324,8 @@ else
 fi
 if command -v valgrind > "$work/found"; then
     for test in calls conveniences $by_cxx "crew $work 1 20" pool 'threads cancelled' 'threads second' 'threads closed' 'resume alone' \
-        'resume threads' 'deadlines alone' 'following alone' followed_clock 'endless short' 'handing busy' 'handing parked' 'handing woken' 'handing full' 'handing cancelled' \
+        'resume threads' 'deadlines alone' 'following alone' followed_clock 'endless short' \
+        'handing busy' 'handing parked' 'handing woken' 'handing full' 'handing cancelled' \
         "files $(mktemp -d -p "$work")"; do
         check "valgrind: $test" valgrind -q --error-exitcode=9 --leak-check=full --show-leak-kinds=all "$work"/$test
     done

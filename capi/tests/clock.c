@@ -149,12 +149,12 @@ static void without_the_clock(void) {
     chanhub_free(hub);
 }
 
-/* Memory refused to each step in turn of a hub that follows a journal. A call that is refused it is made again. If a step of the clock is
- * refused it, the hub ends there, and all are told so, since nobody could make that step again. */
+/* Memory refused to each step in turn of a hub that follows a journal. A call that is refused it is made again. If a step of the
+ * clock is refused it, the hub ends there, and all are told so, since nobody could make that step again. */
 static void while_following(bool goes_on) {
     static const char *const journal =
-        "chanhub journal 2\nprocs 3\n2 recv 0\n0 make 0\n0 select 0 r1 default\n0 cancel 2\n0 recv 1\n1 make 1\n2 cancel 0\n2 recv 0\n"
-        "1 exit\n";
+        "chanhub journal 2\nprocs 3\n2 recv 0\n0 make 0\n0 select 0 r1 default\n0 cancel 2\n0 recv 1\n1 make 1\n2 cancel 0\n"
+        "2 recv 0\n1 exit\n";
     enum { OPENING, TRY, WAKE, WAIT, CANCEL, CLOCK_WAITS, NONE };
     chanhub_options options = { .journal = journal, .journal_length = strlen(journal), .goes_on = goes_on };
     for (int step = OPENING; step <= NONE; step++) {

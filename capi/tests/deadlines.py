@@ -5,11 +5,11 @@ FOLDER/told has what each process was told, in order, each line behind its kind:
 journal is FOLDER/journal, or the history of the chapters FOLDER/journal.0, .1, ... PROGRAM is the built chanhub. If the built
 chanhub_tool (TOOL) is named, the chapters have to be whole to it as well.
 
-A call with a deadline begins with a select with a default, where the clock waits or the deadline has passed. If that has to wait and the
-deadline has not passed, two steps follow: a cancel of the clock, and a send or a receive. Where the clock does not wait and the deadline
-has not passed, the call is that send or receive alone. It is told 'timed out' if, and only if, the clock cancels it, or it was that
-select and took the default. While such a call waits the clock does not. Once none does, it waits: in the next step, if there is one
-journal.
+A call with a deadline begins with a select with a default, where the clock waits or the deadline has passed. If that has to
+wait and the deadline has not passed, two steps follow: a cancel of the clock, and a send or a receive. Where the clock does not
+wait and the deadline has not passed, the call is that send or receive alone. It is told 'timed out' if, and only if, the clock
+cancels it, or it was that select and took the default. While such a call waits the clock does not. Once none does, it waits: in
+the next step, if there is one journal.
 """
 import os
 import subprocess
@@ -68,8 +68,8 @@ def end_of(entry, clock):
 
 
 def told_by(own, place, clock, is_one):
-    """What the entry at this place of a process tells it of a call, in each way that it can be meant: a line as in FOLDER/told, without
-    the process, or None if the call goes on."""
+    """What the entry at this place of a process tells it of a call, in each way that it can be meant: a line as in FOLDER/told,
+    without the process, or None if the call goes on."""
     entry, wakes = own[place], f'cancel {clock}'
     after = own[place + 1] if place + 1 < len(own) else None
     if entry.step == wakes:

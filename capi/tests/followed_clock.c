@@ -1,5 +1,5 @@
-/* Hubs that follow a journal which was recorded with a clock: each step and each answer, worked by hand. A test that hangs is ended by an
- * alarm.
+/* Hubs that follow a journal which was recorded with a clock: each step and each answer, worked by hand. A test that hangs is
+ * ended by an alarm.
  */
 #include "runs.h"
 
@@ -66,8 +66,9 @@ static void a_value_came(void) {
 /* Calls that were tried, and then waited or not. While the clock is awake, one without a try waits. */
 static void tries(void) {
     static const char *const journal =
-        BEGINNING "0 select 0 r1 default\n1 select 0 r1 default\n1 cancel 2\n1 recv 1\n0 select 0 r1 default\n0 recv 1\n2 cancel 1\n"
-        "2 recv 0\n1 select 0 s1:4 default\n0 select 0 r0 r1 default\n0 cancel 2\n0 select 0 r0 r1\n1 select 0 s1:5 default\n2 recv 0\n";
+        BEGINNING "0 select 0 r1 default\n1 select 0 r1 default\n1 cancel 2\n1 recv 1\n0 select 0 r1 default\n0 recv 1\n"
+        "2 cancel 1\n2 recv 0\n1 select 0 s1:4 default\n0 select 0 r0 r1 default\n0 cancel 2\n0 select 0 r0 r1\n"
+        "1 select 0 s1:5 default\n2 recv 0\n";
     chanhub *hub = begun(journal, false);
     is("did not wait", chanhub_recv_until(hub, 0, 1, FAR_OFF).what, CHANHUB_TIMED_OUT);
     is("waits", begin_recv(hub, 1, 0).what, CHANHUB_WAITING);
@@ -85,12 +86,12 @@ static void tries(void) {
     chanhub_free(hub);
 }
 
-/* Two calls with deadlines wait at once, the second without a try: one times out, the other is cancelled. A third times out in the
- * step after it parked. The clock exits before the others, as at a limit. */
+/* Two calls with deadlines wait at once, the second without a try: one times out, the other is cancelled. A third times out in
+ * the step after it parked. The clock exits before the others, as at a limit. */
 static void several(void) {
     static const char *const journal =
-        BEGINNING "0 select 0 r1 default\n0 cancel 2\n0 recv 1\n1 recv 1\n2 cancel 0\n0 cancel 1\n2 recv 0\n1 select 0 r1 default\n"
-        "1 cancel 2\n1 recv 1\n2 cancel 1\n2 exit\n0 exit\n1 exit\n";
+        BEGINNING "0 select 0 r1 default\n0 cancel 2\n0 recv 1\n1 recv 1\n2 cancel 0\n0 cancel 1\n2 recv 0\n"
+        "1 select 0 r1 default\n1 cancel 2\n1 recv 1\n2 cancel 1\n2 exit\n0 exit\n1 exit\n";
     chanhub *hub = begun(journal, false);
     is("waits", begin_recv(hub, 0, 0).what, CHANHUB_WAITING);
     is("waits", begin_recv(hub, 1, 0).what, CHANHUB_WAITING);
@@ -104,7 +105,7 @@ static void several(void) {
     chanhub_free(hub);
 }
 
-/* Where the program does something else the hub ends, or deadlines count from then on, also that of a call which waits already. */
+/* Where the program does something else the hub ends, or deadlines count from then on, also that of a call that waits. */
 static void divergences(void) {
     static const char *const made = BEGINNING "0 select 0 r1 default\n0 cancel 2\n0 recv 1\n";
     static const char *const journal = BEGINNING "0 select 0 r1 default\n0 cancel 2\n0 recv 1\n1 send 1 7\n2 recv 0\n";
@@ -130,8 +131,8 @@ static void divergences(void) {
     is("stalled", chanhub_recv(hub, 0, 1).what, CHANHUB_STALLED);
     is("stalled", chanhub_resume(hub, 1, 0).what, CHANHUB_STALLED);
     has_journal("it went on", hub,
-        BEGINNING "0 select 0 r1 default\n0 cancel 2\n0 recv 1\n2 cancel 0\n2 recv 0\n1 select 0 r1 default\n1 cancel 2\n1 recv 1\n"
-        "2 cancel 1\n2 recv 0\n1 recv 1\n0 recv 1\n2 recv 0\n");
+        BEGINNING "0 select 0 r1 default\n0 cancel 2\n0 recv 1\n2 cancel 0\n2 recv 0\n1 select 0 r1 default\n1 cancel 2\n"
+        "1 recv 1\n2 cancel 1\n2 recv 0\n1 recv 1\n0 recv 1\n2 recv 0\n");
     chanhub_free(hub);
 }
 
@@ -176,8 +177,8 @@ static void at_the_end(void) {
     is("stalled", chanhub_recv(hub, 1, 1).what, CHANHUB_STALLED);
     is("exit", chanhub_exit(hub, 1).what, CHANHUB_DONE);
     has_journal("it went on", hub,
-        BEGINNING "0 select 0 r1 default\n0 cancel 2\n0 recv 1\n1 make 1\n2 cancel 0\n2 recv 0\n0 exit\n1 recv 1\n2 recv 0\n1 exit\n"
-        "2 exit\n");
+        BEGINNING "0 select 0 r1 default\n0 cancel 2\n0 recv 1\n1 make 1\n2 cancel 0\n2 recv 0\n0 exit\n1 recv 1\n2 recv 0\n"
+        "1 exit\n2 exit\n");
     chanhub_free(hub);
 
     hub = begun(BEGINNING "0 select 0 r1 default\n", true);

@@ -1,6 +1,6 @@
 /* followed_runs [RUNS [BUSY]]: random runs whose calls have deadlines, 200 if their number is not given. Each is recorded and
- * followed, and each answer is the recorded one, whatever time it is. Then it is followed with another call, which its journal has
- * not. Meanwhile so many threads as BUSY says keep the processors busy. A test that hangs is ended by an alarm.
+ * followed, and each answer is the recorded one, whatever time it is. Then it is followed with another call, which its journal
+ * has not. Meanwhile so many threads as BUSY says keep the processors busy. A test that hangs is ended by an alarm.
  */
 #include "runs.h"
 
@@ -95,8 +95,8 @@ static bool is_line(const char *line, const char *wanted) {
     return strncmp(line, wanted, strlen(wanted)) == 0;
 }
 
-/* The number of the step with which this process begins its call of this number, from 0; process 0 first makes the ports. A call whose
- * process wakes the clock, number PROCS, goes on by that and by its wait. */
+/* The number of the step with which this process begins its call of this number, from 0; process 0 first makes the ports. A call
+ * whose process wakes the clock, number PROCS, goes on by that and by its wait. */
 static int number_of(const char *text, unsigned pid, int call) {
     bool wakes = false, has_woken = false;
     char cancels[16];

@@ -1,8 +1,8 @@
 #!/usr/bin/env python3
-"""followed_timeouts.py [COUNT]: random threads on hubs whose calls take timeouts, some of which pass. Their journals are followed, with
-other timeouts. Each thread must be told the same again, and the journal must be the same. In every fourth rig one process also asks for
-something else. Then all must be told so, with the number of the step; or it alone, and then all goes on, with timeouts that pass.
-Prints the seed of each rig that differs, and how many were the same.
+"""followed_timeouts.py [COUNT]: random threads on hubs whose calls take timeouts, some of which pass. Their journals are
+followed, with other timeouts. Each thread must be told the same again, and the journal must be the same. In every fourth rig one
+process also asks for something else. Then all must be told so, with the number of the step; or it alone, and then all goes on,
+with timeouts that pass. Prints the seed of each rig that differs, and how many were the same.
 """
 import sys
 import threading
@@ -18,7 +18,7 @@ DRAWN, LONG = None, 1000
 
 
 class Timed(rigs.Worker):
-    """A worker whose calls mostly have timeouts: those that are drawn, or all this one. It makes a further port at its turn `odd`."""
+    """A worker whose calls mostly have timeouts: drawn ones, or all this one. It makes a further port at its turn `odd`."""
 
     def __init__(self, hub, pid, seed, timeout, odd=None):
         super().__init__(hub, 2, pid, seed)
@@ -114,7 +114,7 @@ def is_told(journal, workers, seed):
 
 
 def goes_on(journal, workers, seed):
-    """Whether one is told that a run diverges from its journal, and where; and whether the run that goes on then can be followed too."""
+    """Whether one is told that a run diverges from its journal, and where, and the run that goes on then can be followed too."""
     hub = Hub.follow(journal, goes_on=True)
     other, odd = seed % rigs.PROCS, seed * 7 % rigs.TURNS
     again = ran(hub, seed, DRAWN, other, odd, goes_on=True)

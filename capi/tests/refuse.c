@@ -200,7 +200,7 @@ static int record_timed(void) {
     return !timed.journal;
 }
 
-/* A hub follows it. A call that is refused memory is made again. If the clock is refused it, all later calls are told DIVERGED. */
+/* A hub follows it. A call that is refused memory is made again. Once the clock is refused it, all are told DIVERGED. */
 static int run_timed_following(long allowed) {
     chanhub *hub;
     bool has_ended = false;

@@ -92,7 +92,8 @@ func TestContextsThatAreCancelled(t *testing.T) {
 	isError(t, "send", seat.SendContext(ctx, port, chanhub.Number(7)), nil)
 	isError(t, "full", seat.SendContext(ctx, port, chanhub.Number(8)), context.Canceled)
 	after, _ := hub.Journal()
-	if wanted := "0 make 1\n0 select 0 r1 default\n0 select 0 s1:7 default\n0 select 0 s1:8 default\n"; string(after) != string(before)+wanted {
+	wanted := "0 make 1\n0 select 0 r1 default\n0 select 0 s1:7 default\n0 select 0 s1:8 default\n"
+	if string(after) != string(before)+wanted {
 		t.Errorf("found %s", after[len(before):])
 	}
 }

@@ -52,8 +52,9 @@ func (e JournalError) Error() string {
 // Then the hub ends: all calls return the same, also those that wait. If goesOn is true, it goes on as a hub that follows nothing instead;
 // once all of the journal is made, it then makes any call.
 //
-// If the hub of the journal had Timeouts, a call with a context gives up if, and only if, it did there, whatever time it is now, and whether
-// or not its context is done. It then returns the error of its context, or what that will be. Once the hub goes on freely, contexts count.
+// If the hub of the journal had Timeouts, a call with a context gives up if, and only if, it did there, whatever time it is now,
+// and whether or not its context is done. It then returns the error of its context, or what that will be. Once the hub goes on
+// freely, contexts count.
 //
 // A process that never makes its next step holds up all whose turn is later. Chapters cannot be followed.
 //

@@ -97,7 +97,8 @@ func TestDivergences(t *testing.T) {
 	isError(t, "goes on", hub.Seat(0).Send(port, chanhub.Number(1)), nil)
 }
 
-// timesOut has two processes send and two receive, with contexts some of which are soon done. It returns what each was told, and the journal.
+// timesOut has two processes send and two receive, with contexts some of which are soon done. It returns what each was told, and
+// the journal.
 func timesOut(t *testing.T, hub *chanhub.Hub, longest time.Duration) (told [4][]string, journal []byte) {
 	t.Helper()
 	port, err := hub.Seat(0).Make(0)

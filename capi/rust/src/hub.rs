@@ -390,8 +390,8 @@ impl Hub {
     /// made. Then the hub ends: all calls return the same, also those that wait. If `goes_on` is true, it goes on as a hub that follows
     /// nothing instead; once all of the journal is made, it then makes any call.
     ///
-    /// If the hub of the journal had [timeouts](crate::Builder::timeouts), calls take them. A call times out if, and only if, it did
-    /// there, whatever time it is now. Timeouts count again once the hub goes on freely.
+    /// If the hub of the journal had [timeouts](crate::Builder::timeouts), calls take them. A call times out if, and only if, it
+    /// did there, whatever time it is now. Timeouts count again once the hub goes on freely.
     ///
     /// A process that never makes its next step holds up all whose turn is later. A seat that is dropped exits its process, which is a
     /// step too. Chapters cannot be followed.

@@ -214,14 +214,101 @@ def held(journal):
     return merged
 
 
+def held_after(journal, port, step):
+    """The places of the sends whose values a port holds after a step, oldest first."""
+    sent, received = ([asked for asked, by, _ in journal.moved[side][port] if by <= step] for side in "sr")
+    return sent[len(received) :]
+
+
+def pid_at(journal, place):
+    return int(journal.lines[place].split()[0])
+
+
+def guess_of(journal, by, pid, case):
+    """For whom a stalled case perhaps waits: a send for one whose value its port holds, if that one is stalled too and does not wait to send
+    there; or else for whom pictures name."""
+    stalled = {other: picture.cases_of(journal.lines[asked]) for step, other, asked in journal.stalls if step == by}
+    owners = [pid_at(journal, place) for place in held_after(journal, int(case[1]), by)] if case[0] == "s" else []
+    owner = next((one for one in owners if one in stalled and case not in stalled[one]), None)
+    if owner is not None:
+        return owner
+    return picture.whom(journal, by, case, pid, *(picture.mover(journal.moved[side][int(case[1])], by) for side in "sr"))
+
+
 def guesses(journal):
     """Of each stall who perhaps waits for whom."""
     for by, pid, asked in journal.stalls:
         for case in picture.cases_of(journal.lines[asked]):
-            movers = [picture.mover(journal.moved[side][int(case[1])], by) for side in "sr"]
-            other = picture.whom(journal, by, case, pid, *movers)
+            other = guess_of(journal, by, pid, case)
             if other is not None:
                 yield by, pid, other
+
+
+def ways(journal):
+    """By the place of each move, all moves of that value on its way: a process passes on what it got if it sends the same before it gets
+    another, so a send continues the way of what its process got last, if that is the same."""
+    receivers = {sent[0]: received[0] for _, sent, received in journal.passages()}
+    senders = {received: sent for sent, received in receivers.items()}
+    first, last = {}, {}
+    for one in journal.asked():
+        pid, words = int(one.line.split()[0]), words_of(one)
+        if words.endswith(" sent"):
+            got, value = last.get(pid, (None, None))
+            first[one.place] = first[senders[got]] if value == value_of(one) else one.place
+        if " got " in words:
+            last[pid] = one.place, value_of(one)
+    moves = collections.defaultdict(set)
+    for send, root in first.items():
+        moves[root] |= {send} | ({receivers[send]} if send in receivers else set())
+    return {place: way for way in moves.values() for place in way}
+
+
+def case_words(text):
+    """What a case does, from how a select spells it."""
+    port, _, value = text[1:].partition(":")
+    return f"send {readable(value)} on port {port}" if text[0] == "s" else f"receive from port {port}"
+
+
+def cases_spelled(line):
+    fields = line.split()
+    return [fields[1][0] + ":".join(fields[2:])] if fields[1] in ("send", "recv") else [text for text in fields[3:] if text != "default"]
+
+
+def held_lines(journal, by):
+    """What the panel says of each port on which a call that a step stalled waits to send, if it holds values."""
+    stalled = [asked for step, _, asked in journal.stalls if step == by]
+    asked = journal.asked()
+    for port in dict.fromkeys(int(port) for place in stalled for side, port in asked[place].cases if side == "s"):
+        held = held_after(journal, port, by)
+        told = "; ".join(f"{readable(value_of(asked[place]))}, sent by P{pid_at(journal, place)} at step {place + 1}" for place in held[:4])
+        if held:
+            yield f"port {port} holds {told}" + (f"; and {len(held) - 4} more" if len(held) > 4 else "")
+
+
+def stalled_lines(journal, by):
+    """What the panel says of each call that a step stalled."""
+    for step, pid, asked in journal.stalls:
+        if step == by:
+            line = journal.lines[asked]
+            others = [guess_of(journal, by, pid, case) for case in picture.cases_of(line)]
+            told = "".join(f"; perhaps for P{other}" for other in others if other is not None)
+            yield f"P{pid}, step {asked + 1} waits to {' or to '.join(map(case_words, cases_spelled(line)))}{told}"
+
+
+def own_steps(journal, place):
+    """The steps before and behind one that its process asked, if they are there."""
+    own = [at for at, line in enumerate(journal.lines) if line.split()[0] == journal.lines[place].split()[0]]
+    at = own.index(place)
+    return own[at - 1] if at else None, own[at + 1] if at + 1 < len(own) else None
+
+
+def waits_told(journal):
+    """All calls that waited, the longest first and the older of equal ones first: for how long, and the words of the panel."""
+    asked = journal.asked()
+    waits = [((one.ended.by if one.ended else len(asked) - 1) - one.place, one) for one in asked if one.ended is None or one.ended.by > one.place]
+    for steps, one in sorted(waits, key=lambda wait: (-wait[0], wait[1].place)):
+        until = f"P{pid_at(journal, one.ended.by)}, step {one.ended.by + 1}" if one.ended else "the end"
+        yield [str(steps), f"P{pid_at(journal, one.place)}, step {one.place + 1} {one.line} {answer_of(one)}", until]
 
 
 # ---- what it draws
@@ -285,14 +372,19 @@ def agree(name, drawn, wanted, by=1.0):
     assert not left, f"{name} too many: {left[:4]}"
 
 
-def title_of(one, count):
-    """What the mouse on a box is told."""
+def answer_of(one):
+    """What a step was told, in words."""
     words = words_of(one)
     fault = re.fullmatch(r"fault (\d+)", words)
     told = "waits to the end" if one.ended is None else f"{words}: {story_model.FAULTS[int(fault[1]) - 1]}" if fault else words
     told = re.sub(r"^case \d+ ", "", told)
     got = re.fullmatch(r"got (.*)", told)
-    told = f"got {readable(got[1])}" if got else told
+    return f"got {readable(got[1])}" if got else told
+
+
+def title_of(one, count):
+    """What the mouse on a box is told."""
+    told = answer_of(one)
     steps = (one.ended.by if one.ended else count - 1) - one.place
     waits = one.ended is None or steps > 0
     return f"step {one.place + 1}: {one.line}\n{told}" + (f", waited {steps} step{'' if steps == 1 else 's'}" if waits else "")
@@ -442,6 +534,8 @@ def check_random(browser, count, work, seed):
     count.run(f"sketches of random journal {seed}", lambda: check_sketches(text, journal))
     count.run(f"data of random journal {seed}", lambda: check_data(browser, journal))
     count.run(f"search in random journal {seed}", lambda: check_search(browser, journal))
+    count.run(f"ways in random journal {seed}", lambda: check_ways(browser, journal))
+    count.run(f"panel of random journal {seed}", lambda: check_panel(browser, journal, draw))
 
 
 def check_long(browser, count, work, seed, total):
@@ -462,6 +556,8 @@ def check_long(browser, count, work, seed, total):
     count.run(f"data of long journal {seed}", lambda: check_data(browser, journal))
     count.run(f"overview of long journal {seed}", lambda: check_overview(text, journal))
     count.run(f"search in long journal {seed}", lambda: check_search(browser, journal))
+    count.run(f"ways in long journal {seed}", lambda: check_ways(browser, journal))
+    count.run(f"panel of long journal {seed}", lambda: check_panel(browser, journal, draw))
 
 
 def check_edges(browser, count, work):
@@ -709,17 +805,128 @@ def check_search(browser, journal):
         assert told == wanted, f"{words}: {told[:9]} and not {wanted[:9]}"
 
 
+def check_ways(browser, journal):
+    """The longest ways, and some others."""
+    wanted = ways(journal)
+    places = sorted(wanted, key=lambda place: (-len(wanted[place]), place))
+    places = places[:3] + places[3 :: len(places) // 4 + 1]
+    for place, told in zip(places, found(browser, *(f"way {place + 1}" for place in places))):
+        assert sorted(told) == sorted(wanted[place]), f"the way of step {place + 1}: {told[:9]} and not {sorted(wanted[place])[:9]}"
+
+
+def check_panel(browser, journal, draw):
+    """What the panel says of stalls, of the steps before one, and of the steps of its process; and the longest waits."""
+    asked, stalls = journal.asked(), sorted({by for by, _, _ in journal.stalls})
+    rows = [cells for cells in browser.value("[...document.querySelectorAll('#longest tr')].map((row) => [...row.cells].map((cell) => cell.textContent.trim()))")]
+    assert rows == list(waits_told(journal))[:5], f"{rows} and not {list(waits_told(journal))[:5]}"
+    for place in [*stalls[:2], *stalls[-2:], *(draw(len(asked)) for _ in range(6))]:
+        browser.value(f"page.choose({place})")
+        full, stalled = texts(browser, "#full li"), texts(browser, "#stalled li")
+        assert full == list(held_lines(journal, place)), f"step {place + 1}: {full} and not {list(held_lines(journal, place))}"
+        assert stalled == [line.strip() for line in stalled_lines(journal, place)], f"step {place + 1}: {stalled} and not {list(stalled_lines(journal, place))}"
+        wanted = [f"{one.place + 1} {one.line} {answer_of(one) if one.ended and one.ended.by < place else 'waits'}" for one in asked[max(0, place - 6) : place]]
+        told = texts(browser, "#before li")
+        assert told == wanted, f"before step {place + 1}: {told} and not {wanted}"
+        before, behind = (f"step {at + 1}" if at is not None else "none" for at in own_steps(journal, place))
+        told = texts(browser, "#process")
+        assert told == [f"P{pid_at(journal, place)}: {before} before, {behind} after"], f"steps of the process of step {place + 1}: {told}"
+    browser.value("page.choose(null)")
+
+
+# locks: a port with one place is free while it is empty. Process 2 takes the second one first, the others the first one
+LOCKS = "chanhub journal 2\nprocs 3\n0 make 1\n0 make 1\n0 make 5\n" + "".join(
+    f"{pid} send 1 {pid}\n{pid} send 2 {pid}\n{pid} recv 2\n{pid} recv 1\n" for pid in (0, 1, 2)) + "".join(
+    f"0 send 3 {n}\n" for n in range(5)) + "2 send 2 2\n0 send 1 0\n1 send 1 1\n2 send 1 2\n0 send 2 0\n1 exit\n" + "2 send 3 9\n" + "0 send 3 8\n"
+
+
+def check_locks(browser, count, work):
+    """Who stands in whose way, worked out by hand: 0 has lock 1 and waits for lock 2, which 2 has, and 2 and 1 wait for lock 1. Then 2 and 0 wait
+    to send on port 3, which holds what 0 sent before: 0 does not wait for itself, and 2 not for 0, which does the same."""
+    journal = picture.Journal(LOCKS.encode())
+    open_page(browser, LOCKS, work / "locks.html")
+    first, second = sorted({by for by, _, _ in journal.stalls})
+    browser.value(f"page.choose({first}); page.paint()")
+    full, stalled = texts(browser, "#full li"), texts(browser, "#stalled li")
+    count.test("what full ports hold", full == ["port 1 holds 0, sent by P0 at step 22", "port 2 holds 2, sent by P2 at step 21"], full)
+    wanted = [f"P{pid}, step {step} waits to send {pid} on port {port}; perhaps for P{other}" for pid, step, port, other in ((1, 23, 1, 0), (2, 24, 1, 0), (0, 25, 2, 2))]
+    count.test("guesses by what they hold", stalled == wanted, stalled)
+    told = texts(browser, "#stall p")
+    count.test("how it is guessed is told", len(told) == 1 and "guess" in told[0] and browser.value("document.querySelector('#stall p').checkVisibility()"), told)
+    drawn = Drawn(browser, journal.procs)
+    arcs = {(drawn.lane(shape.way[1]), drawn.lane(shape.way[-1])) for shape in drawn.kind("guess") if abs(shape.way[0] - drawn.x(first)) < drawn.dots}
+    count.test("arcs are these guesses", arcs == {(0, 2), (1, 0), (2, 0)}, arcs)
+    browser.value(f"page.choose({second})")
+    full, stalled = texts(browser, "#full li"), texts(browser, "#stalled li")
+    wanted = "port 3 holds 0, sent by P0 at step 16; 1, sent by P0 at step 17; 2, sent by P0 at step 18; 3, sent by P0 at step 19; and 1 more"
+    count.test("a port that holds many values", full == [wanted], full)
+    count.test("no guess names who does the same", stalled == ["P2, step 27 waits to send 9 on port 3", "P0, step 28 waits to send 8 on port 3"], stalled)
+    browser.value("page.choose(3)")
+    count.test("of a step that stalls nobody no deadlock is told", not browser.value("document.getElementById('stall').checkVisibility()"))
+
+
+# process 2 passes 7 and then 7 again on, with a 5 between; process 1 gets a 7 that is another one, and sends it after it got an 8
+SEVENS = "chanhub journal 2\nprocs 4\n" + "0 make 9\n" * 3 + (
+    "0 send 1 7\n2 recv 1\n2 send 2 5\n2 send 2 7\n2 send 3 7\n3 recv 3\n" "1 recv 2\n1 recv 2\n0 send 2 8\n1 recv 2\n1 send 3 7\n3 recv 3\n3 send 1 7\n")
+
+
+def check_sevens(browser, count, work):
+    open_page(browser, SEVENS, work / "sevens.html")
+    told = found(browser, "way 4", "way 11", "way 14", "=7", "way 6", "way 1")
+    own, other = [3, 4, 6, 7, 8, 10], [13, 14, 15]
+    told, sevens, five, none = told[:3], told[3], told[4], told[5]
+    count.test("a value that is sent twice has both ways", [sorted(way) for way in told] == [own, own, other], told)
+    count.test("a value's way goes from its sender on", told[0][0] == 3, told[0])
+    count.test("all equal values are found", sevens == sorted(own + other), sevens)
+    count.test("another value has its own way", five == [5, 9], five)
+    count.test("who moves no value has no way", none == [], none)
+    browser.value("page.find('=7')")
+    browser.settle()
+    heading, moves = texts(browser, "#way"), texts(browser, "#moves li")
+    count.test("equal values are not called a way", heading == ["Moves of 7: 9 of 9 moves"] and len(moves) == 5, (heading, moves))
+    count.test("a value that stays", moves[-1] == "port 1: sent by P3, step 16, stays there", moves)
+
+
+def check_deadlocks(browser, count, work):
+    """Of many deadlocks some are left out, which is told."""
+    for total in 5, 6, 9:
+        open_page(browser, "chanhub journal 1\nprocs 1\n0 make 0\n" + "0 recv 1\n" * total, work / "deadlocks.html")
+        line = lambda step: f"step {step} stalls P0"
+        wanted = [line(2), *([f"and {total - 5} more, then"] if total > 5 else []), *(line(total + 1 - at) for at in (3, 2, 1, 0))]
+        told = texts(browser, "#stalls li")
+        count.test(f"{total} deadlocks", told == wanted, told)
+    browser.value("document.querySelector('#stalls li:nth-child(2) a').click()")
+    browser.settle()
+    count.test("those left out are found", browser.value("page.found.length") == 9, browser.value("page.found"))
+
+
+def check_waits(browser, count, path):
+    """The longest waits fit the panel; how many more waited as long as the last is counted when it is asked."""
+    told = list(waits_told(picture.Journal(PIPE.encode())))
+    more = sum(wait[0] == told[4][0] for wait in told[5:])
+    for width in 1400, 1000, 700:
+        browser.ask("Emulation.setDeviceMetricsOverride", width=width, height=HEIGHT, deviceScaleFactor=1, mobile=False)
+        browser.open(path)
+        wide = browser.value("[...document.querySelectorAll('#panel, #panel table, #panel pre')].map((one) => one.scrollWidth - one.clientWidth)")
+        count.test(f"nothing in the panel is cut off, {width} wide", max(wide) <= 0, wide)
+    browser.ask("Emulation.setDeviceMetricsOverride", width=WIDTH, height=HEIGHT, deviceScaleFactor=1, mobile=False)
+    browser.open(path)
+    browser.value("document.querySelector('#ties button').click()")
+    browser.settle()
+    ties = texts(browser, "#ties")
+    count.test("how many more waited as long", more > 9 and ties == [f"{more} more waited {told[4][0]} steps"], (ties, more))
+    count.test("the whole is still told", title(browser) == "The whole", title(browser))
+    waited = sorted(int(re.search(r"step (\d+)", wait[1])[1]) - 1 for wait in told if wait[0] == told[4][0])
+    count.test("these waits are found", browser.value("page.found") == waited, browser.value("page.found"))
+
+
 PIPE = "chanhub journal 2\nprocs 4\n0 make 0\n0 make 2\n0 make 0\n" + "".join(
     f"1 recv 1\n0 send 1 {n}\n1 send 2 {n}\n2 recv 2\n2 send 3 {n}\n3 recv 3\n" for n in range(100, 140)) + "0 recv 3\n1 recv 1\n2 send 3 7\n0 exit\n"
 STEPS_OF = {n: 3 + 6 * (n - 100) for n in range(100, 140)}  # the place of the first step of each value
 
 
-def longest_wait():
-    """How the story tells it."""
-    asked = picture.Journal(PIPE.encode()).asked()
-    waits = [((one.ended.by if one.ended else len(asked) - 1) - one.place, -one.place) for one in asked if one.ended is None or one.ended.by > one.place]
-    steps, place = max(waits)
-    return re.compile(rf"{1 - place} +P{asked[-place].line} .* {steps}, ")
+def texts(browser, of):
+    """What is told in each of these elements of the panel, with single spaces."""
+    return browser.value(f"[...document.querySelectorAll({json.dumps(of)})].map((one) => one.textContent.trim().replace(/\\s+/g, ' '))")
 
 
 def title(browser):
@@ -736,21 +943,22 @@ def check_follow(browser, count, path):
     """The value 120 goes through three ports: it is followed by keys, by an arrow that is clicked, and by a link in the panel."""
     first = STEPS_OF[120]
     ways = list(range(first, first + 6))
-    stages = [f"P{pid}, step {first + 1 + at} {word} port {port}" for at, (pid, word, port) in enumerate(
-        [(1, "got it from", 1), (0, "sent it on", 1), (1, "sent it on", 2), (2, "got it from", 2), (2, "sent it on", 3), (3, "got it from", 3)])]
+    stages = [f"port {port}: sent by P{port - 1}, step {first + 1 + sent}, got by P{port}, step {first + 1 + got}" for port, sent, got in ((1, 1, 0), (2, 2, 3), (3, 4, 5))]
+    in_order = [first + at for at in (1, 0, 2, 3, 4, 5)]
     browser.open(path, f"#step={first + 3}")
     browser.key("f")
-    count.test("f follows a value", browser.value("page.found") == ways, browser.value("page.found"))
+    count.test("f follows a value, each send before its receive", browser.value("page.found") == in_order, browser.value("page.found"))
     count.test("the step that is followed stays chosen", title(browser) == f"Step {first + 3} of P1", title(browser))
-    told = browser.value("document.getElementById('step').textContent")
-    places = [told.find(words) for words in stages]
-    count.test("the stages of a value are told in order", -1 not in places and places == sorted(places), told[:500])
+    told = texts(browser, "#moves li")
+    count.test("the stages of a value are told in order", told == stages, told)
+    heading = browser.value("document.getElementById('way').textContent")
+    count.test("the way has a name", heading == "The way of 120: 6 of 6 moves", heading)
     browser.key("n")
     count.test("the next stage", title(browser) == f"Step {first + 4} of P2", title(browser))
     browser.key("p")
     browser.key("p")
-    count.test("the stages before", title(browser) == f"Step {first + 2} of P0", title(browser))
-    pale = browser.value("[...document.querySelectorAll('#lanes .box')].filter((box) => getComputedStyle(box).opacity === '1').map((box) => Number(box.dataset.step))")
+    count.test("the stages before", title(browser) == f"Step {first + 1} of P1", title(browser))
+    pale = browser.value("[...document.querySelectorAll('#lanes .box')].filter((box) => getComputedStyle(box).opacity === '1').map((box) => Number(box.dataset.link.slice(5)) - 1)")
     count.test("all else is paler", sorted(pale) == ways, pale)
     browser.key("Escape")
     browser.value(f"page.find(''); page.view.show({first - 4}, 14); page.draw()")
@@ -758,11 +966,11 @@ def check_follow(browser, count, path):
     (x, y), (toX, toY) = at(browser, first + 5, 2), at(browser, first + 5, 3)
     browser.mouse((x + toX) / 2, (y + toY) / 2, "mouseMoved", "mousePressed", "mouseReleased")
     browser.settle()
-    count.test("a click on an arrow follows its value", browser.value("page.found") == ways, browser.value("page.found"))
+    count.test("a click on an arrow follows its value", browser.value("page.found") == in_order, browser.value("page.found"))
     browser.open(path, f"#step={first + 3}")
     browser.value("[...document.querySelectorAll('#step a')].find((one) => one.textContent === 'Follow it').click()")
     browser.settle()
-    count.test("a link follows its value", browser.value("page.found") == ways, browser.value("page.found"))
+    count.test("a link follows its value", browser.value("page.found") == in_order, browser.value("page.found"))
 
 
 def check_mouse(browser, count, path):
@@ -772,7 +980,7 @@ def check_mouse(browser, count, path):
     browser.settle()
     browser.mouse(*at(browser, first + 2, 1), "mouseMoved", "mousePressed", "mouseReleased")
     count.test("a click on a box chooses it", title(browser) == f"Step {first + 3} of P1", title(browser))
-    told = browser.value(f"document.querySelector('[data-step=\"{first + 2}\"] title').textContent")
+    told = browser.value(f"document.querySelector('.box[data-link=\"step={first + 3}\"] title').textContent")
     count.test("hovering tells the journal's line", told == f"step {first + 3}: 1 send 2 110\nsent", told)
     browser.mouse(*at(browser, first + 0.6, 1), "mouseMoved", "mousePressed", "mouseReleased")
     count.test("a click on a bar goes to who ended it", title(browser) == f"Step {first + 2} of P0", title(browser))
@@ -819,10 +1027,19 @@ def check_lanes(browser, count, path):
         waited[int(one.line.split()[0])] += (one.ended.by if one.ended else len(asked) - 1) - one.place
     wanted = [f"P{pid}" for pid in sorted(range(4), key=lambda pid: (-waited[pid], pid))]
     count.test("processes by time waited", names()[:4] == wanted, (names(), waited))
+    rows = texts(browser, "#processes td:first-child")
+    count.test("the table has this order too", rows == wanted != sorted(wanted), rows)
     choose("#order", "by number")
+    count.test("the table by number", texts(browser, "#processes td:first-child") == ["P0", "P1", "P2", "P3"])
     browser.value("document.querySelector('[data-port]').click()")
     browser.settle()
     count.test("a hidden port has no strip", names() == ["P0", "P1", "P2", "P3"], names())
+    told = texts(browser, "#empty label")
+    count.test("ports that never held a value are told", told == ["port 1", "port 3"], told)
+    browser.value("document.querySelector('[data-port=\"3\"]').click()")
+    browser.settle()
+    count.test("and can be shown", names() == ["P0", "P1", "P2", "P3", "port 3"], names())
+    browser.value("page.view.show(0, 9); page.paint(); page.view.show(0, 600); page.paint()")
 
 
 def check_keys(browser, count, path):
@@ -843,7 +1060,18 @@ def check_keys(browser, count, path):
     browser.ask("Input.insertText", text="=120")
     browser.key("Enter")
     count.test("a search by keys", browser.value("document.getElementById('count').textContent") == "1 of 6", browser.value("document.getElementById('count').textContent"))
-    browser.value("document.activeElement.blur()")
+    at_count = lambda: browser.value("document.getElementById('count').textContent")
+    count.test("the cursor has left the field", browser.value("document.activeElement.id") == "scroll", browser.value("document.activeElement.id"))
+    browser.key("Enter")
+    count.test("Enter again goes to the next one", at_count() == "2 of 6" and title(browser) == f"Step {STEPS_OF[120] + 2} of P0", (at_count(), title(browser)))
+    browser.key(">")
+    count.test("> goes to the last one", at_count() == "6 of 6" and title(browser) == f"Step {STEPS_OF[120] + 6} of P3", (at_count(), title(browser)))
+    browser.key("<")
+    count.test("< goes to the first one", at_count() == "1 of 6" and title(browser) == f"Step {STEPS_OF[120] + 1} of P1", (at_count(), title(browser)))
+    browser.key("/")
+    browser.key("Enter")
+    count.test("Enter in the field, too, if it says the same", at_count() == "2 of 6", at_count())
+    browser.key("p")
     browser.key("n")
     count.test("n goes to the next one found", title(browser) == f"Step {STEPS_OF[120] + 2} of P0", title(browser))
     browser.key("j")
@@ -857,16 +1085,55 @@ def check_keys(browser, count, path):
     count.test("w goes to who ended the wait", title(browser) == f"Step {STEPS_OF[120] + 2} of P0", title(browser))
     browser.key("g")
     count.test("g goes to the other end of the value", title(browser) == f"Step {STEPS_OF[120] + 1} of P1", title(browser))
+    own = [at for at, line in enumerate(PIPE.splitlines()[2:]) if line.startswith("1 ") and at > STEPS_OF[120]]
+    browser.key("J")
+    count.test("J goes to the next step of the process", title(browser) == f"Step {own[0] + 1} of P1", title(browser))
+    browser.key("J")
+    browser.key("K")
+    browser.key("K")
+    count.test("K goes back", title(browser) == f"Step {STEPS_OF[120] + 1} of P1", title(browser))
+    check_find(browser, count)
     browser.key("?")
     count.test("? shows help", browser.value("document.getElementById('help').open"))
     browser.value("document.getElementById('help').close()")
     browser.key("Escape")
     count.test("Escape shows the whole", title(browser) == "The whole", title(browser))
-    told = browser.value("document.getElementById('whole').textContent")
-    count.test("the longest wait is told", longest_wait().search(told), told[:300])
     count.test("what is chosen is told to a screen reader", browser.value("document.getElementById('step').ariaLive") == "polite" and browser.value("[...document.querySelectorAll('[role=img]')].every((one) => one.ariaLabel)"))
     nameless = browser.value("""[...document.querySelectorAll("button, input, select")].filter((one) => !(one.ariaLabel || one.textContent.trim() && one.tagName === "BUTTON" || one.closest("label"))).length""")
     count.test("each button has a name", nameless == 0, nameless)
+
+
+def check_find(browser, count):
+    """Where a search begins, and what it says where it finds nothing."""
+    def look(words):
+        browser.key("/")
+        browser.value("document.getElementById('find').select()")
+        browser.ask("Input.insertText", text=words)
+        browser.key("Enter")
+        browser.settle()
+        return browser.value("document.getElementById('count').textContent"), title(browser)
+
+    first = STEPS_OF[120]
+    steps = [at + 1 for at, line in enumerate(PIPE.splitlines()[2:]) if line.startswith("3 ")]
+    place = next(at for at, step in enumerate(steps) if step > first)
+    browser.value(f"page.choose({first})")
+    told = look("P3")
+    count.test("a search begins at the chosen step", told == (f"{place + 1} of {len(steps)}, from step {first + 1} on", f"Step {steps[place]} of P3"), told)
+    told = look("first P3")
+    count.test("or at the first step", told == (f"1 of {len(steps)}", f"Step {steps[0]} of P3"), told)
+    told = look("P3 last")
+    count.test("or at the last one", told == (f"{len(steps)} of {len(steps)}", f"Step {steps[-1]} of P3"), told)
+    browser.value("page.choose(page.journal.steps - 1)")
+    told = look("=100")
+    count.test("it says that nothing is behind", told == (f"1 of 6, none from step {PIPE.count(chr(10)) - 2} on", f"Step {STEPS_OF[100] + 1} of P1"), told)
+    told = look("=99")
+    panel = browser.value("((none) => none.checkVisibility() && none.textContent)(document.getElementById('none'))")
+    count.test("the panel says that nothing is found", told[0] == "none" and panel == "Nothing is found by =99. What was chosen stays:", (told, panel))
+    browser.key("Escape")
+    count.test("Escape works after a search", title(browser) == "The whole", title(browser))
+    look("=120")
+    count.test("and then it says so no more", not browser.value("document.getElementById('none').checkVisibility()"))
+    browser.value(f"page.choose({first})")
 
 
 def check_links(browser, count, path):
@@ -1082,9 +1349,11 @@ def main():
         count.run("wrong data", lambda: check_notices(browser, count, work))
         path = work / "pipe.html"
         open_page(browser, PIPE, path)
-        for check in check_follow, check_mouse, check_lanes, check_keys, check_links, check_contrasts:
+        for check in check_follow, check_mouse, check_lanes, check_waits, check_keys, check_links, check_contrasts:
             count.run(check.__name__, lambda: check(browser, count, path))
         count.run("stalls in the strip", lambda: check_stall_marks(browser, count, work))
+        for check in check_locks, check_sevens, check_deadlocks:
+            count.run(check.__name__, lambda: check(browser, count, work))
         count.run("bytes that HTML would take for its own", lambda: check_nasty(browser, count, work))
         count.run("bytes a step", lambda: check_bytes(count, work))
         browser.ask("Page.navigate", url="about:blank")

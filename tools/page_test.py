@@ -225,10 +225,12 @@ def pid_at(journal, place):
 
 
 def guess_of(journal, by, pid, case):
-    """For whom a stalled case perhaps waits: a send for one whose value its port holds, if that one is stalled too and does not wait to send
-    there; or else for whom pictures name."""
+    """For whom a stalled case perhaps waits: a send on a port from which somebody last took its own value back for one whose value it holds,
+    if that one is stalled too and does not wait to send there; or else for whom pictures name."""
     stalled = {other: picture.cases_of(journal.lines[asked]) for step, other, asked in journal.stalls if step == by}
-    owners = [pid_at(journal, place) for place in held_after(journal, int(case[1]), by)] if case[0] == "s" else []
+    passed = [(sent[0], received[0]) for port, sent, received in journal.passages() if port == int(case[1]) and received[1] <= by]
+    is_lock = case[0] == "s" and passed and pid_at(journal, passed[-1][0]) == pid_at(journal, passed[-1][1])
+    owners = [pid_at(journal, place) for place in held_after(journal, int(case[1]), by)] if is_lock else []
     owner = next((one for one in owners if one in stalled and case not in stalled[one]), None)
     if owner is not None:
         return owner
@@ -864,6 +866,19 @@ def check_locks(browser, count, work):
     count.test("of a step that stalls nobody no deadlock is told", not browser.value("document.getElementById('stall').checkVisibility()"))
 
 
+# who waits to send its result waits for who takes results, and not for another one whose result lies there
+RESULTS = "chanhub journal 2\nprocs 3\n0 make 1\n0 make 0\n0 make 0\n1 send 1 11\n0 recv 1\n1 send 1 12\n1 recv 2\n2 send 1 21\n0 recv 3\n"
+
+
+def check_results(browser, count, work):
+    open_page(browser, RESULTS, work / "results.html")
+    browser.value("page.choose(8)")
+    full, stalled = texts(browser, "#full li"), texts(browser, "#stalled li")
+    count.test("a port of results holds one", full == ["port 1 holds 12, sent by P1 at step 6"], full)
+    wanted = ["P1, step 7 waits to receive from port 2", "P2, step 8 waits to send 21 on port 1; perhaps for P0", "P0, step 9 waits to receive from port 3"]
+    count.test("results wait for who takes them", stalled == wanted, stalled)
+
+
 # process 2 passes 7 and then 7 again on, with a 5 between; process 1 gets a 7 that is another one, and sends it after it got an 8
 SEVENS = "chanhub journal 2\nprocs 4\n" + "0 make 9\n" * 3 + (
     "0 send 1 7\n2 recv 1\n2 send 2 5\n2 send 2 7\n2 send 3 7\n3 recv 3\n" "1 recv 2\n1 recv 2\n0 send 2 8\n1 recv 2\n1 send 3 7\n3 recv 3\n3 send 1 7\n")
@@ -871,9 +886,9 @@ SEVENS = "chanhub journal 2\nprocs 4\n" + "0 make 9\n" * 3 + (
 
 def check_sevens(browser, count, work):
     open_page(browser, SEVENS, work / "sevens.html")
-    told = found(browser, "way 4", "way 11", "way 14", "=7", "way 6", "way 1")
+    told = found(browser, "way 4", "way 11", "way 14", "=7", "way 6", "way 1", "way 17", "way 0")
     own, other = [3, 4, 6, 7, 8, 10], [13, 14, 15]
-    told, sevens, five, none = told[:3], told[3], told[4], told[5]
+    told, sevens, five, none = told[:3], told[3], told[4], sum(told[5:], [])
     count.test("a value that is sent twice has both ways", [sorted(way) for way in told] == [own, own, other], told)
     count.test("a value's way goes from its sender on", told[0][0] == 3, told[0])
     count.test("all equal values are found", sevens == sorted(own + other), sevens)
@@ -1352,7 +1367,7 @@ def main():
         for check in check_follow, check_mouse, check_lanes, check_waits, check_keys, check_links, check_contrasts:
             count.run(check.__name__, lambda: check(browser, count, path))
         count.run("stalls in the strip", lambda: check_stall_marks(browser, count, work))
-        for check in check_locks, check_sevens, check_deadlocks:
+        for check in check_locks, check_results, check_sevens, check_deadlocks:
             count.run(check.__name__, lambda: check(browser, count, work))
         count.run("bytes that HTML would take for its own", lambda: check_nasty(browser, count, work))
         count.run("bytes a step", lambda: check_bytes(count, work))

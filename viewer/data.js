@@ -142,11 +142,12 @@ class Journal {
         const done = sends.map((send) => this.step(send)).filter((send) => send.end.by <= place);
         return [...done.take(level?.count ?? this.levelBefore(at, port))].reverse();
     }
-    casesOf({ place, calls, last }) {  // a guess names one who sent what a full port holds, or else whom the data name
+    casesOf({ place, calls, last }) {  // a guess: a port of which one took its own value back last is a lock, and its value's sender has it
         const steps = calls.map((call) => this.step(call)), all = steps.flatMap((step) => step.offers.map((offer) => ({ step, offer })));
         return all.map(({ step, offer }, at) => {
-            const held = offer[0] === "s" ? this.heldAt(place, last[at].port) : [];
-            const holder = held.find(({ pid }) => steps.some((other) => other.pid === pid && !other.offers.includes(offer)));
+            const held = offer[0] === "s" ? this.heldAt(place, last[at].port) : [], taker = this.step(last[at].movers[1] ?? NaN);
+            const isOther = ({ pid }) => steps.some((other) => other.pid === pid && !other.offers.includes(offer));
+            const holder = taker && taker.sender.pid === taker.pid ? held.find(isOther) : null;
             return { ...last[at], step, held, other: holder?.pid ?? last[at].other };
         });
     }
@@ -158,10 +159,10 @@ class Journal {
         const steps = blocks.flatMap(({ steps }) => (direction > 0 ? steps : steps.toReversed()));
         return steps.filter((step) => step.pid === pid && (step.place - place) * direction > 0);
     }
-    *wayOf({ sender, value }) {  // who sends what it got, before it gets another, passes it on
-        const near = (step, direction) => this.stepsOfProcess(step, direction).take(MOST_OWN), sends = [];
+    *wayOf(sender) {  // who sends what it got, before it gets another, passes it on
+        const near = (step, direction) => this.stepsOfProcess(step, direction).take(MOST_OWN), { value } = sender;
         for (let got = sender; got?.value === value; got = near(sender, -1).find((step) => step.endsBy("g"))) sender = got.sender;
-        if (sender) sends.push(sender);
+        const sends = [sender];
         for (const send of sends) {
             yield [send, send.receiver].filter(Boolean);
             for (const step of send.receiver ? near(send.receiver, 1) : []) {

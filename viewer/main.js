@@ -54,12 +54,12 @@ class Page {
         this.layOut();
     }
     async find(words) {  // search, list by list, so that the page stays awake: all steps, or those of the way of a value
-        const { journal } = this, [, way] = /^way (\d+)$/i.exec(words) ?? [], found = [];
+        const { journal } = this, [, way] = /^way (\d+)$/i.exec(words) ?? [], start = journal.step(way - 1)?.sender, found = [];
         const parts = way ? [] : words.match(/(port|step|waited) \d+|P\d+|=\S+|\S+/gi) ?? [], isEnd = (part) => ENDMOST.includes(part);
         const tests = parts.filter((part) => !isEnd(part)).map((part) => this.testOf(part));
         let told = performance.now();
         Object.assign(this, { words, found, marks: new Set() });
-        for (const steps of way ? journal.wayOf(journal.step(way - 1)) : words ? journal.allSteps() : []) {
+        for (const steps of start ? journal.wayOf(start) : words && !way ? journal.allSteps() : []) {
             for (const step of steps) if (tests.every((test) => test(step))) found.push(step.place);
             if (performance.now() - told < 15) continue;
             byId("count").textContent = `${found.length}, searching`;
@@ -96,8 +96,7 @@ class Page {
     get isFollowing() { return /^(=|way \d+$)/.test(this.words) && this.found.length > 0; }
     writeLink() {  // links: #step=60&find=P3&from=1&to=100
         const { view: { first, steps }, words: find, chosen } = this, parts = { from: Math.round(first) + 1, to: Math.round(first + steps) };
-        Object.assign(parts, find && { find }, chosen && { step: chosen.place + 1 });
-        history.replaceState(null, "", `#${new URLSearchParams(parts)}`);
+        history.replaceState(null, "", `#${new URLSearchParams(Object.assign(parts, find && { find }, chosen && { step: chosen.place + 1 }))}`);
     }
     readLink() {
         const { step, find, from, to } = Object.fromEntries(new URLSearchParams(location.hash.slice(1)));

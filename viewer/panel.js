@@ -53,7 +53,6 @@ function tellWhole(journal, story) {  // of deadlocks the first and the last fou
     const { steps, procs, stalls, rooms, asks, waits, exits } = journal, left = stalls.length - 5;
     const stalled = (place) => html`${link(place)} stalls ${journal.stallAt(place).calls.map((call) => `P${journal.step(call).pid}`).join(", ")}`;
     const gap = left > 0 ? [html`and <a href="#find=stalled">${left} more</a>, then`] : [];
-    const ends = [...stalls.slice(0, 1).map(stalled), ...gap, ...stalls.slice(1).slice(-4).map(stalled)];
     const longest = [...story.matchAll(/^ *(\d+) +P/gm)].map(([, step]) => journal.step(step - 1)), least = longest.at(-1)?.waited;
     const ties = longest.filter(({ waited }) => waited === least).length, until = ({ end }) => (end.letter ? who(journal.step(end.by)) : "the end");
     const shownAs = (lane) => html`<select data-process="${lane}" aria-label="${lane} shown as">${{ html: byId("forms").innerHTML }}</select>`;
@@ -62,7 +61,8 @@ function tellWhole(journal, story) {  // of deadlocks the first and the last fou
     const boxes = (isHeld) => numbers(1, rooms.length + 1).filter((port) => isHeld === rooms[port - 1] > 0).map(box);
     put({
         size: `${counted(steps, "step")} of ${procs} processes on ${counted(rooms.length, "port")}`,
-        deadlocks: counted(stalls.length, "deadlock"), stalls: items(ends),
+        deadlocks: counted(stalls.length, "deadlock"),
+        stalls: items([...stalls.slice(0, 1).map(stalled), ...gap, ...stalls.slice(1).slice(-4).map(stalled)]),
         longest: rowsOf(longest.map((step) => [step.waited, called(step, who(step)), until(step)])),
         ties: longest.length > 4 && html`<button onclick="page.countTies('waited ${least}', ${ties})">How many more waited ${least}?</button>`,
         held: boxes(true), empty: boxes(false), processes: rowsOf(waits.map((waited, lane) => [name(lane), asks[lane], waited, exit(lane), shownAs(lane)])),

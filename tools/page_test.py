@@ -4,7 +4,8 @@ with which the bytes of TOOL's are compared. What a page has to show is worked o
 tells of it, by picture.py, and not by the page or its data. The shapes of N random journals (50) at three zooms are compared with that:
 each box stands in the column of its step on the axis and in the row of its process's name, and so on for bars, arrows, levels, stalls
 and guesses: all expected shapes, and no others. Those of longer journals are drawn on a canvas, and are taken from the calls to it.
-The sketches in the data, and what the page sums up by them, are counted again. Search, following, links, mouse and keys are tried; the
+The sketches in the data, and what the page sums up by them, are counted again, and so are ways of values, longest waits, what full ports
+hold and whom stalled calls perhaps wait for. Search, following, links, mouse and keys are tried; the
 contrasts of all colours are computed on light and on dark; bytes that HTML would take for its own are shown; no error may stand in the
 console; the data of journals of benches/ have at most 60 bytes a step; and a page of a million steps has to open, and be drawn at any
 zoom, in little time of the processor. Status 77 without Chromium. The last line counts.

@@ -161,7 +161,8 @@ class Journal {
     }
     *wayOf(sender) {  // who sends what it got, before it gets another, passes it on
         const near = (step, direction) => this.stepsOfProcess(step, direction).take(MOST_OWN), { value } = sender;
-        for (let got = sender; got?.value === value; got = near(sender, -1).find((step) => step.endsBy("g"))) sender = got.sender;
+        for (let got = sender; got?.value === value; yield [])
+            [sender, got] = [got.sender, near(got.sender, -1).find((step) => step.endsBy("g"))];
         const sends = [sender];
         for (const send of sends) {
             yield [send, send.receiver].filter(Boolean);

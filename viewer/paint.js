@@ -31,8 +31,7 @@ class Painter {
             [name(`port ${port}`, floor - 8), line(floor, view.width), line(floor - STRIP + 8, view.width, "full")]));
     }
     shapes() {
-        const { view } = this, stalls = this.journal.stallsOf(...view.range());
-        const rect = (shape, { title } = shape) => node("rect", { ...shape, title });
+        const { view } = this, stalls = this.journal.stallsOf(...view.range()), rect = (shape, { title } = shape) => node("rect", { ...shape, title });
         return [
             ...stalls.flatMap((stall) => this.fields(stall)).map((field) => rect(field)), ...view.levels().map((level) => rect(this.level(level))),
             ...view.arrows().flatMap((to) => this.arrow(to)), ...view.bars().flatMap((call) => [rect(this.bar(call), call), this.knob(call)]),

@@ -4,8 +4,8 @@ with which the bytes of TOOL's are compared. What a page has to show is worked o
 tells of it, by picture.py, and not by the page or its data. The shapes of N random journals (50) at three zooms are compared with that:
 each box stands in the column of its step on the axis and in the row of its process's name, and so on for bars, arrows, levels, stalls
 and guesses: all expected shapes, and no others. Those of longer journals are drawn on a canvas, and are taken from the calls to it.
-The sketches in the data, and what the page sums up by them, are counted again, and so are ways of values, longest waits, what full ports
-hold and whom stalled calls perhaps wait for. Search, following, links, mouse and keys are tried; the
+The sketches in the data, and what the page sums up by them, are counted again, and so are ways of values, longest waits, what
+full ports hold and whom stalled calls perhaps wait for. Search, following, links, mouse and keys are tried; the
 contrasts of all colours are computed on light and on dark; bytes that HTML would take for its own are shown; no error may stand in the
 console; the data of journals of benches/ have at most 60 bytes a step; and a page of a million steps has to open, and be drawn at any
 zoom, in little time of the processor. Status 77 without Chromium. The last line counts.
@@ -226,8 +226,8 @@ def pid_at(journal, place):
 
 
 def guess_of(journal, by, pid, case):
-    """For whom a stalled case perhaps waits: a send on a port from which somebody last took its own value back for one whose value it holds,
-    if that one is stalled too and does not wait to send there; or else for whom pictures name."""
+    """For whom a stalled case perhaps waits: a send on a port from which somebody last took its own value back for one whose
+    value it holds, if that one is stalled too and does not wait to send there; or else for whom pictures name."""
     stalled = {other: picture.cases_of(journal.lines[asked]) for step, other, asked in journal.stalls if step == by}
     passed = [(sent[0], received[0]) for port, sent, received in journal.passages() if port == int(case[1]) and received[1] <= by]
     is_lock = case[0] == "s" and passed and pid_at(journal, passed[-1][0]) == pid_at(journal, passed[-1][1])
@@ -248,8 +248,8 @@ def guesses(journal):
 
 
 def ways(journal):
-    """By the place of each move, all moves of that value on its way: a process passes on what it got if it sends the same before it gets
-    another, so a send continues the way of what its process got last, if that is the same."""
+    """By the place of each move, all moves of that value on its way: a process passes on what it got if it sends the same before
+    it gets another, so a send continues the way of what its process got last, if that is the same."""
     receivers = {sent[0]: received[0] for _, sent, received in journal.passages()}
     senders = {received: sent for sent, received in receivers.items()}
     first, last = {}, {}
@@ -274,7 +274,9 @@ def case_words(text):
 
 def cases_spelled(line):
     fields = line.split()
-    return [fields[1][0] + ":".join(fields[2:])] if fields[1] in ("send", "recv") else [text for text in fields[3:] if text != "default"]
+    if fields[1] in ("send", "recv"):
+        return [fields[1][0] + ":".join(fields[2:])]
+    return [text for text in fields[3:] if text != "default"]
 
 
 def held_lines(journal, by):
@@ -283,7 +285,8 @@ def held_lines(journal, by):
     asked = journal.asked()
     for port in dict.fromkeys(int(port) for place in stalled for side, port in asked[place].cases if side == "s"):
         held = held_after(journal, port, by)
-        told = "; ".join(f"{readable(value_of(asked[place]))}, sent by P{pid_at(journal, place)} at step {place + 1}" for place in held[:4])
+        told = "; ".join(f"{readable(value_of(asked[place]))}, sent by P{pid_at(journal, place)} at step {place + 1}"
+            for place in held[:4])
         if held:
             yield f"port {port} holds {told}" + (f"; and {len(held) - 4} more" if len(held) > 4 else "")
 
@@ -308,7 +311,8 @@ def own_steps(journal, place):
 def waits_told(journal):
     """All calls that waited, the longest first and the older of equal ones first: for how long, and the words of the panel."""
     asked = journal.asked()
-    waits = [((one.ended.by if one.ended else len(asked) - 1) - one.place, one) for one in asked if one.ended is None or one.ended.by > one.place]
+    waits = [((one.ended.by if one.ended else len(asked) - 1) - one.place, one) for one in asked
+        if one.ended is None or one.ended.by > one.place]
     for steps, one in sorted(waits, key=lambda wait: (-wait[0], wait[1].place)):
         until = f"P{pid_at(journal, one.ended.by)}, step {one.ended.by + 1}" if one.ended else "the end"
         yield [str(steps), f"P{pid_at(journal, one.place)}, step {one.place + 1} {one.line} {answer_of(one)}", until]
@@ -814,61 +818,72 @@ def check_ways(browser, journal):
     places = sorted(wanted, key=lambda place: (-len(wanted[place]), place))
     places = places[:3] + places[3 :: len(places) // 4 + 1]
     for place, told in zip(places, found(browser, *(f"way {place + 1}" for place in places))):
-        assert sorted(told) == sorted(wanted[place]), f"the way of step {place + 1}: {told[:9]} and not {sorted(wanted[place])[:9]}"
+        way = sorted(wanted[place])
+        assert sorted(told) == way, f"the way of step {place + 1}: {told[:9]} and not {way[:9]}"
 
 
 def check_panel(browser, journal, draw):
     """What the panel says of stalls, of the steps before one, and of the steps of its process; and the longest waits."""
     asked, stalls = journal.asked(), sorted({by for by, _, _ in journal.stalls})
-    rows = [cells for cells in browser.value("[...document.querySelectorAll('#longest tr')].map((row) => [...row.cells].map((cell) => cell.textContent.trim()))")]
-    assert rows == list(waits_told(journal))[:5], f"{rows} and not {list(waits_told(journal))[:5]}"
+    rows, cells = list(waits_told(journal))[:5], texts(browser, "#longest td")
+    assert cells == sum(rows, []), f"{cells} and not {rows}"
     for place in [*stalls[:2], *stalls[-2:], *(draw(len(asked)) for _ in range(6))]:
         browser.value(f"page.choose({place})")
-        full, stalled = texts(browser, "#full li"), texts(browser, "#stalled li")
-        assert full == list(held_lines(journal, place)), f"step {place + 1}: {full} and not {list(held_lines(journal, place))}"
-        assert stalled == [line.strip() for line in stalled_lines(journal, place)], f"step {place + 1}: {stalled} and not {list(stalled_lines(journal, place))}"
-        wanted = [f"{one.place + 1} {one.line} {answer_of(one) if one.ended and one.ended.by < place else 'waits'}" for one in asked[max(0, place - 6) : place]]
+        for id, lines in ("full", held_lines(journal, place)), ("stalled", stalled_lines(journal, place)):
+            told, wanted = texts(browser, f"#{id} li"), [line.strip() for line in lines]
+            assert told == wanted, f"{id} at step {place + 1}: {told} and not {wanted}"
+        wanted = [f"{one.place + 1} {one.line} {answer_of(one) if one.ended and one.ended.by < place else 'waits'}"
+            for one in asked[max(0, place - 6) : place]]
         told = texts(browser, "#before li")
         assert told == wanted, f"before step {place + 1}: {told} and not {wanted}"
         before, behind = (f"step {at + 1}" if at is not None else "none" for at in own_steps(journal, place))
         told = texts(browser, "#process")
-        assert told == [f"P{pid_at(journal, place)}: {before} before, {behind} after"], f"steps of the process of step {place + 1}: {told}"
+        wanted = [f"P{pid_at(journal, place)}: {before} before, {behind} after"]
+        assert told == wanted, f"steps of the process of step {place + 1}: {told} and not {wanted}"
     browser.value("page.choose(null)")
 
 
 # locks: a port with one place is free while it is empty. Process 2 takes the second one first, the others the first one
 LOCKS = "chanhub journal 2\nprocs 3\n0 make 1\n0 make 1\n0 make 5\n" + "".join(
     f"{pid} send 1 {pid}\n{pid} send 2 {pid}\n{pid} recv 2\n{pid} recv 1\n" for pid in (0, 1, 2)) + "".join(
-    f"0 send 3 {n}\n" for n in range(5)) + "2 send 2 2\n0 send 1 0\n1 send 1 1\n2 send 1 2\n0 send 2 0\n1 exit\n" + "2 send 3 9\n" + "0 send 3 8\n"
+    f"0 send 3 {n}\n" for n in range(5)) + (
+    "2 send 2 2\n0 send 1 0\n1 send 1 1\n2 send 1 2\n0 send 2 0\n1 exit\n2 send 3 9\n0 send 3 8\n")
 
 
 def check_locks(browser, count, work):
-    """Who stands in whose way, worked out by hand: 0 has lock 1 and waits for lock 2, which 2 has, and 2 and 1 wait for lock 1. Then 2 and 0 wait
-    to send on port 3, which holds what 0 sent before: 0 does not wait for itself, and 2 not for 0, which does the same."""
+    """Who stands in whose way, worked out by hand: 0 has lock 1 and waits for lock 2, which 2 has, and 2 and 1 wait for lock 1.
+    Then 2 and 0 wait to send on port 3, which holds what 0 sent before: 0 does not wait for itself, nor 2 for 0, which does so too."""
     journal = picture.Journal(LOCKS.encode())
     open_page(browser, LOCKS, work / "locks.html")
     first, second = sorted({by for by, _, _ in journal.stalls})
     browser.value(f"page.choose({first}); page.paint()")
     full, stalled = texts(browser, "#full li"), texts(browser, "#stalled li")
-    count.test("what full ports hold", full == ["port 1 holds 0, sent by P0 at step 22", "port 2 holds 2, sent by P2 at step 21"], full)
-    wanted = [f"P{pid}, step {step} waits to send {pid} on port {port}; perhaps for P{other}" for pid, step, port, other in ((1, 23, 1, 0), (2, 24, 1, 0), (0, 25, 2, 2))]
+    count.test("what full ports hold",
+        full == ["port 1 holds 0, sent by P0 at step 22", "port 2 holds 2, sent by P2 at step 21"], full)
+    wanted = [f"P{pid}, step {step} waits to send {pid} on port {port}; perhaps for P{other}"
+        for pid, step, port, other in ((1, 23, 1, 0), (2, 24, 1, 0), (0, 25, 2, 2))]
     count.test("guesses by what they hold", stalled == wanted, stalled)
     told = texts(browser, "#stall p")
-    count.test("how it is guessed is told", len(told) == 1 and "guess" in told[0] and browser.value("document.querySelector('#stall p').checkVisibility()"), told)
+    count.test("how it is guessed is told", len(told) == 1 and "guess" in told[0]
+        and browser.value("document.querySelector('#stall p').checkVisibility()"), told)
     drawn = Drawn(browser, journal.procs)
-    arcs = {(drawn.lane(shape.way[1]), drawn.lane(shape.way[-1])) for shape in drawn.kind("guess") if abs(shape.way[0] - drawn.x(first)) < drawn.dots}
+    arcs = {(drawn.lane(shape.way[1]), drawn.lane(shape.way[-1])) for shape in drawn.kind("guess")
+        if abs(shape.way[0] - drawn.x(first)) < drawn.dots}
     count.test("arcs are these guesses", arcs == {(0, 2), (1, 0), (2, 0)}, arcs)
     browser.value(f"page.choose({second})")
     full, stalled = texts(browser, "#full li"), texts(browser, "#stalled li")
-    wanted = "port 3 holds 0, sent by P0 at step 16; 1, sent by P0 at step 17; 2, sent by P0 at step 18; 3, sent by P0 at step 19; and 1 more"
+    wanted = "port 3 holds " + "".join(f"{n}, sent by P0 at step {16 + n}; " for n in range(4)) + "and 1 more"
     count.test("a port that holds many values", full == [wanted], full)
-    count.test("no guess names who does the same", stalled == ["P2, step 27 waits to send 9 on port 3", "P0, step 28 waits to send 8 on port 3"], stalled)
+    count.test("no guess names who does the same",
+        stalled == ["P2, step 27 waits to send 9 on port 3", "P0, step 28 waits to send 8 on port 3"], stalled)
     browser.value("page.choose(3)")
-    count.test("of a step that stalls nobody no deadlock is told", not browser.value("document.getElementById('stall').checkVisibility()"))
+    count.test("of a step that stalls nobody no deadlock is told",
+        not browser.value("document.getElementById('stall').checkVisibility()"))
 
 
 # who waits to send its result waits for who takes results, and not for another one whose result lies there
-RESULTS = "chanhub journal 2\nprocs 3\n0 make 1\n0 make 0\n0 make 0\n1 send 1 11\n0 recv 1\n1 send 1 12\n1 recv 2\n2 send 1 21\n0 recv 3\n"
+RESULTS = "chanhub journal 2\nprocs 3\n0 make 1\n0 make 0\n0 make 0\n" + (
+    "1 send 1 11\n0 recv 1\n1 send 1 12\n1 recv 2\n2 send 1 21\n0 recv 3\n")
 
 
 def check_results(browser, count, work):
@@ -876,13 +891,15 @@ def check_results(browser, count, work):
     browser.value("page.choose(8)")
     full, stalled = texts(browser, "#full li"), texts(browser, "#stalled li")
     count.test("a port of results holds one", full == ["port 1 holds 12, sent by P1 at step 6"], full)
-    wanted = ["P1, step 7 waits to receive from port 2", "P2, step 8 waits to send 21 on port 1; perhaps for P0", "P0, step 9 waits to receive from port 3"]
+    wanted = ["P1, step 7 waits to receive from port 2", "P2, step 8 waits to send 21 on port 1; perhaps for P0",
+        "P0, step 9 waits to receive from port 3"]
     count.test("results wait for who takes them", stalled == wanted, stalled)
 
 
 # process 2 passes 7 and then 7 again on, with a 5 between; process 1 gets a 7 that is another one, and sends it after it got an 8
 SEVENS = "chanhub journal 2\nprocs 4\n" + "0 make 9\n" * 3 + (
-    "0 send 1 7\n2 recv 1\n2 send 2 5\n2 send 2 7\n2 send 3 7\n3 recv 3\n" "1 recv 2\n1 recv 2\n0 send 2 8\n1 recv 2\n1 send 3 7\n3 recv 3\n3 send 1 7\n")
+    "0 send 1 7\n2 recv 1\n2 send 2 5\n2 send 2 7\n2 send 3 7\n3 recv 3\n"
+    "1 recv 2\n1 recv 2\n0 send 2 8\n1 recv 2\n1 send 3 7\n3 recv 3\n3 send 1 7\n")
 
 
 def check_sevens(browser, count, work):
@@ -907,7 +924,8 @@ def check_deadlocks(browser, count, work):
     for total in 5, 6, 9:
         open_page(browser, "chanhub journal 1\nprocs 1\n0 make 0\n" + "0 recv 1\n" * total, work / "deadlocks.html")
         line = lambda step: f"step {step} stalls P0"
-        wanted = [line(2), *([f"and {total - 5} more, then"] if total > 5 else []), *(line(total + 1 - at) for at in (3, 2, 1, 0))]
+        wanted = [line(2), *([f"and {total - 5} more, then"] if total > 5 else []),
+            *(line(total + 1 - at) for at in (3, 2, 1, 0))]
         told = texts(browser, "#stalls li")
         count.test(f"{total} deadlocks", told == wanted, told)
     browser.value("document.querySelector('#stalls li:nth-child(2) a').click()")
@@ -922,7 +940,8 @@ def check_waits(browser, count, path):
     for width in 1400, 1000, 700:
         browser.ask("Emulation.setDeviceMetricsOverride", width=width, height=HEIGHT, deviceScaleFactor=1, mobile=False)
         browser.open(path)
-        wide = browser.value("[...document.querySelectorAll('#panel, #panel table, #panel pre')].map((one) => one.scrollWidth - one.clientWidth)")
+        elements = "[...document.querySelectorAll('#panel, #panel table, #panel pre')]"
+        wide = browser.value(elements + ".map((one) => one.scrollWidth - one.clientWidth)")
         count.test(f"nothing in the panel is cut off, {width} wide", max(wide) <= 0, wide)
     browser.ask("Emulation.setDeviceMetricsOverride", width=WIDTH, height=HEIGHT, deviceScaleFactor=1, mobile=False)
     browser.open(path)
@@ -942,7 +961,8 @@ STEPS_OF = {n: 3 + 6 * (n - 100) for n in range(100, 140)}  # the place of the f
 
 def texts(browser, of):
     """What is told in each of these elements of the panel, with single spaces."""
-    return browser.value(f"[...document.querySelectorAll({json.dumps(of)})].map((one) => one.textContent.trim().replace(/\\s+/g, ' '))")
+    elements = f"[...document.querySelectorAll({json.dumps(of)})]"
+    return browser.value(elements + ".map((one) => one.textContent.trim().replace(/\\s+/g, ' '))")
 
 
 def title(browser):
@@ -959,11 +979,13 @@ def check_follow(browser, count, path):
     """The value 120 goes through three ports: it is followed by keys, by an arrow that is clicked, and by a link in the panel."""
     first = STEPS_OF[120]
     ways = list(range(first, first + 6))
-    stages = [f"port {port}: sent by P{port - 1}, step {first + 1 + sent}, got by P{port}, step {first + 1 + got}" for port, sent, got in ((1, 1, 0), (2, 2, 3), (3, 4, 5))]
+    stages = [f"port {port}: sent by P{port - 1}, step {first + 1 + sent}, got by P{port}, step {first + 1 + got}"
+        for port, sent, got in ((1, 1, 0), (2, 2, 3), (3, 4, 5))]
     in_order = [first + at for at in (1, 0, 2, 3, 4, 5)]
     browser.open(path, f"#step={first + 3}")
     browser.key("f")
-    count.test("f follows a value, each send before its receive", browser.value("page.found") == in_order, browser.value("page.found"))
+    count.test("f follows a value, each send before its receive", browser.value("page.found") == in_order,
+        browser.value("page.found"))
     count.test("the step that is followed stays chosen", title(browser) == f"Step {first + 3} of P1", title(browser))
     told = texts(browser, "#moves li")
     count.test("the stages of a value are told in order", told == stages, told)
@@ -974,7 +996,8 @@ def check_follow(browser, count, path):
     browser.key("p")
     browser.key("p")
     count.test("the stages before", title(browser) == f"Step {first + 1} of P1", title(browser))
-    pale = browser.value("[...document.querySelectorAll('#lanes .box')].filter((box) => getComputedStyle(box).opacity === '1').map((box) => Number(box.dataset.link.slice(5)) - 1)")
+    clear = "[...document.querySelectorAll('#lanes .box')].filter((box) => getComputedStyle(box).opacity === '1')"
+    pale = browser.value(clear + ".map((box) => Number(box.dataset.link.slice(5)) - 1)")
     count.test("all else is paler", sorted(pale) == ways, pale)
     browser.key("Escape")
     browser.value(f"page.find(''); page.view.show({first - 4}, 14); page.draw()")
@@ -1055,7 +1078,6 @@ def check_lanes(browser, count, path):
     browser.value("document.querySelector('[data-port=\"3\"]').click()")
     browser.settle()
     count.test("and can be shown", names() == ["P0", "P1", "P2", "P3", "port 3"], names())
-    browser.value("page.view.show(0, 9); page.paint(); page.view.show(0, 600); page.paint()")
 
 
 def check_keys(browser, count, path):
@@ -1077,13 +1099,17 @@ def check_keys(browser, count, path):
     browser.key("Enter")
     count.test("a search by keys", browser.value("document.getElementById('count').textContent") == "1 of 6", browser.value("document.getElementById('count').textContent"))
     at_count = lambda: browser.value("document.getElementById('count').textContent")
-    count.test("the cursor has left the field", browser.value("document.activeElement.id") == "scroll", browser.value("document.activeElement.id"))
+    count.test("the cursor has left the field", browser.value("document.activeElement.id") == "scroll",
+        browser.value("document.activeElement.id"))
     browser.key("Enter")
-    count.test("Enter again goes to the next one", at_count() == "2 of 6" and title(browser) == f"Step {STEPS_OF[120] + 2} of P0", (at_count(), title(browser)))
+    count.test("Enter again goes to the next one", at_count() == "2 of 6"
+        and title(browser) == f"Step {STEPS_OF[120] + 2} of P0", (at_count(), title(browser)))
     browser.key(">")
-    count.test("> goes to the last one", at_count() == "6 of 6" and title(browser) == f"Step {STEPS_OF[120] + 6} of P3", (at_count(), title(browser)))
+    count.test("> goes to the last one", at_count() == "6 of 6" and title(browser) == f"Step {STEPS_OF[120] + 6} of P3",
+        (at_count(), title(browser)))
     browser.key("<")
-    count.test("< goes to the first one", at_count() == "1 of 6" and title(browser) == f"Step {STEPS_OF[120] + 1} of P1", (at_count(), title(browser)))
+    count.test("< goes to the first one", at_count() == "1 of 6" and title(browser) == f"Step {STEPS_OF[120] + 1} of P1",
+        (at_count(), title(browser)))
     browser.key("/")
     browser.key("Enter")
     count.test("Enter in the field, too, if it says the same", at_count() == "2 of 6", at_count())
@@ -1134,17 +1160,20 @@ def check_find(browser, count):
     place = next(at for at, step in enumerate(steps) if step > first)
     browser.value(f"page.choose({first})")
     told = look("P3")
-    count.test("a search begins at the chosen step", told == (f"{place + 1} of {len(steps)}, from step {first + 1} on", f"Step {steps[place]} of P3"), told)
+    count.test("a search begins at the chosen step",
+        told == (f"{place + 1} of {len(steps)}, from step {first + 1} on", f"Step {steps[place]} of P3"), told)
     told = look("first P3")
     count.test("or at the first step", told == (f"1 of {len(steps)}", f"Step {steps[0]} of P3"), told)
     told = look("P3 last")
     count.test("or at the last one", told == (f"{len(steps)} of {len(steps)}", f"Step {steps[-1]} of P3"), told)
     browser.value("page.choose(page.journal.steps - 1)")
     told = look("=100")
-    count.test("it says that nothing is behind", told == (f"1 of 6, none from step {PIPE.count(chr(10)) - 2} on", f"Step {STEPS_OF[100] + 1} of P1"), told)
+    count.test("it says that nothing is behind",
+        told == (f"1 of 6, none from step {PIPE.count(chr(10)) - 2} on", f"Step {STEPS_OF[100] + 1} of P1"), told)
     told = look("=99")
     panel = browser.value("((none) => none.checkVisibility() && none.textContent)(document.getElementById('none'))")
-    count.test("the panel says that nothing is found", told[0] == "none" and panel == "Nothing is found by =99. What was chosen stays:", (told, panel))
+    count.test("the panel says that nothing is found", told[0] == "none"
+        and panel == "Nothing is found by =99. What was chosen stays:", (told, panel))
     browser.key("Escape")
     count.test("Escape works after a search", title(browser) == "The whole", title(browser))
     look("=120")

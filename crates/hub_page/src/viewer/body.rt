@@ -2,13 +2,15 @@
 
 pub(super) const TEXT: &[u8] = b"</style>
 </head>
-<body inert onchange=\"page.changeSetting(event)\" onclick=\"page.draw()\">
+<body inert onhashchange=\"page.readLink()\" onkeydown=\"page.key(event)\" onchange=\"page.changeSetting(event)\">
 <header>
-<h1 id=\"name\">A journal</h1>
-<label>Find <input id=\"find\" type=\"search\" onchange=\"page.find(this.value.trim())\" placeholder=\"P3, port 2, =17, stalled, step 60\" autocomplete=\"off\" spellcheck=\"false\"></label>
+<h1 id=\"journal\">A journal</h1>
+<label>Find <input id=\"find\" type=\"search\" onkeydown=\"if (event.key === 'Enter') page.leaveFind(this.value.trim())\" onchange=\"page.find(this.value.trim())\" placeholder=\"P3, port 2, =17, stalled, step 60\" title=\"The search begins at the chosen step\" autocomplete=\"off\" spellcheck=\"false\"></label>
 <span id=\"count\" role=\"status\"></span>
+<button onclick=\"page.keys['<']()\" aria-label=\"the first one found\">&#8676;</button>
 <button onclick=\"page.keys['p']()\" aria-label=\"the one before\">&larr;</button>
 <button onclick=\"page.keys['n']()\" aria-label=\"the next one\">&rarr;</button>
+<button onclick=\"page.keys['>']()\" aria-label=\"the last one found\">&#8677;</button>
 <span class=\"space\"></span>
 <button onclick=\"page.keys['+']()\" aria-label=\"nearer\">+</button>
 <button onclick=\"page.keys['-']()\" aria-label=\"farther\">&minus;</button>
@@ -19,11 +21,12 @@ pub(super) const TEXT: &[u8] = b"</style>
 <main id=\"scroll\" tabindex=\"0\" aria-label=\"Processes and ports\">
 <canvas id=\"axis\" aria-hidden=\"true\"></canvas>
 <canvas id=\"far\" aria-hidden=\"true\"></canvas>
-<svg id=\"lanes\" onwheel=\"page.wheel(event)\" onpointerdown=\"page.dragged = 0\" onpointermove=\"page.drag(event)\" onclick=\"page.click(event)\" role=\"img\" aria-label=\"A lane for each process, from left to right. The panel tells in words what is chosen: j and k choose the next step and the one before.\"></svg>
+<svg id=\"lanes\" onwheel=\"event.preventDefault(); page.wheel(event)\" onpointerdown=\"page.dragged = 0\" onpointermove=\"if (event.buttons) page.drag(event)\" onclick=\"if (page.dragged <= 4) page.click(event)\" role=\"img\" aria-label=\"A lane for each process, from left to right. The panel tells in words what is chosen: j and k choose the next step and the one before.\"></svg>
 </main>
 <footer>
-<canvas id=\"strip\" onpointerdown=\"page.moveWhole(event)\" onpointermove=\"page.moveWhole(event)\" role=\"img\" aria-label=\"The whole: how many processes wait, and where they stalled\"></canvas>
+<canvas id=\"strip\" onpointerdown=\"page.moveWhole(event)\" onpointermove=\"if (event.buttons) page.moveWhole(event)\" role=\"img\" aria-label=\"The whole: how many processes wait, and where they stalled\"></canvas>
 <div id=\"window\"></div>
+<p id=\"caption\">how many processes wait; orange: deadlocks</p>
 </footer>
 <dialog id=\"help\">
 <form method=\"dialog\"><button>Close</button></form>
@@ -34,10 +37,12 @@ pub(super) const TEXT: &[u8] = b"</style>
 <tr><td>drag, shift and wheel, <kbd>&larr;</kbd> <kbd>&rarr;</kbd> <kbd>Home</kbd> <kbd>End</kbd></td><td>to other steps</td></tr>
 <tr><td>click where there are no boxes yet, or on the strip</td><td>come near; go there</td></tr>
 <tr><td>click a box, <kbd>j</kbd> <kbd>k</kbd></td><td>choose a step; the next one, the one before</td></tr>
+<tr><td><kbd>J</kbd> <kbd>K</kbd></td><td>the next step of the same process, the one before</td></tr>
 <tr><td>click a bar, <kbd>w</kbd></td><td>go to the step that ended the wait</td></tr>
-<tr><td>click an arrow, <kbd>f</kbd></td><td>follow a value: find it, with all else paler</td></tr>
+<tr><td>click an arrow, <kbd>f</kbd></td><td>follow a value on its way from port to port, with all else paler: if a process sends the value that it got, before it gets another, it passes that value on</td></tr>
 <tr><td><kbd>g</kbd></td><td>go to the value's other end</td></tr>
-<tr><td><kbd>/</kbd>, then <kbd>n</kbd> <kbd>p</kbd></td><td>find: P3, port 2, =17 (a value), stalled, cancelled, waited, send, step 60, or several of them; then the next one, the one before</td></tr>
+<tr><td><kbd>/</kbd>, <kbd>Enter</kbd></td><td>find, beginning at the chosen step: P3, port 2, =17 (all equal values), stalled, cancelled, waited, waited 53 (steps), send, step 60, way 60 (of the value that step 60 moved), or several of them. With first or last: begin there</td></tr>
+<tr><td><kbd>n</kbd> or <kbd>Enter</kbd>, <kbd>p</kbd>, <kbd>&lt;</kbd> <kbd>&gt;</kbd></td><td>of what is found the next one, the one before, the first and the last</td></tr>
 <tr><td><kbd>Esc</kbd></td><td>the whole: the longest waits, deadlocks, ports, processes</td></tr>
 </table>
 <p>The address holds what is chosen, found and in view, so it can be kept as a link. Why a step is refused:</p>
@@ -58,7 +63,51 @@ pub(super) const TEXT: &[u8] = b"</style>
 </dialog>
 <svg width=\"0\" height=\"0\" aria-hidden=\"true\"><marker id=\"tip\" viewBox=\"0 0 8 8\" refX=\"8\" refY=\"4\" markerUnits=\"userSpaceOnUse\" markerWidth=\"8\" markerHeight=\"8\" orient=\"auto\"><path d=\"M0,0L8,4L0,8z\" fill=\"context-stroke\"/></marker></svg>
 <aside id=\"panel\" aria-label=\"What is chosen\">
-<div id=\"step\" aria-live=\"polite\"></div>
-<div id=\"whole\"></div>
+<p id=\"none\" role=\"status\"></p>
+<div id=\"step\" aria-live=\"polite\" hidden>
+<h2 id=\"name\"></h2>
+<p><code id=\"line\"></code> <span id=\"number\" class=\"dim\"></span></p>
+<table>
+<tr><th scope=\"row\">answer</th><td id=\"answer\"></td></tr>
+<tr><th scope=\"row\">waited</th><td id=\"waited\"></td></tr>
+<tr><th scope=\"row\">value</th><td id=\"value\"></td></tr>
+<tr><th scope=\"row\">ended</th><td><ul id=\"ended\"></ul></td></tr>
+<tr><th scope=\"row\">cases</th><td><ul id=\"cases\"></ul></td></tr>
+<tr><th scope=\"row\">process</th><td id=\"process\"></td></tr>
+</table>
+<h3 id=\"way\"></h3>
+<ul id=\"moves\"></ul>
+<div id=\"stall\">
+<h3>A deadlock: everyone who is left waits</h3>
+<ul id=\"full\"></ul>
+<ul id=\"stalled\"></ul>
+<p class=\"dim\">Whom a call perhaps waits for is a guess, as the arcs are. If the last who received from a full port took its own value back, as from a lock, a send waits for one whose value the port holds; or else for who last received there, or who last sent. A receive waits for who last sent there, or who last received. Only processes that are stalled too, and do not wait to do the same there, are named.</p>
+<h3>Who was there last</h3>
+<table class=\"lines\"><thead><tr><td>port</td><td>sent by</td><td>received by</td></tr></thead><tbody id=\"last\"></tbody></table>
+</div>
+<h3>Before it</h3>
+<ul id=\"before\"></ul>
+<p><a href=\"#\">The whole</a></p>
+</div>
+<div id=\"whole\">
+<h2>The whole</h2>
+<p id=\"size\"></p>
+<h3 id=\"deadlocks\"></h3>
+<ul id=\"stalls\"></ul>
+<div id=\"waits\">
+<h3>The longest waits</h3>
+<table class=\"lines\"><thead><tr><td>steps</td><td>from</td><td>until, ended by</td></tr></thead><tbody id=\"longest\"></tbody></table>
+<p id=\"ties\"></p>
+</div>
+<h3>Shown</h3>
+<p id=\"held\"></p>
+<p>Never held a value: <span id=\"empty\"></span></p>
+<p><select id=\"order\" aria-label=\"their order\"><option>by number<option>by time waited</select>
+<select data-process=\"all\" aria-label=\"all shown as\"><option>all<option>open<option>folded<option>hidden<option>on top</select></p>
+<template id=\"forms\"><option>open<option>folded<option>hidden<option>on top</template>
+<table class=\"lines\"><thead><tr><td></td><td>steps</td><td>waited</td><td>exit</td><td>shown</td></tr></thead><tbody id=\"processes\"></tbody></table>
+<h3>The end of the story</h3>
+<pre id=\"end\"></pre>
+</div>
 <div id=\"data\" hidden><!--
 ";

@@ -2,25 +2,24 @@
 
 pub(super) const TEXT: &[u8] =
     b"// The page: what is chosen, and what search, links, wheel, mouse and keys do.
-const byId = (id) => document.getElementById(id);
+const byId = (id) => document.getElementById(id), ENDMOST = [\"first\", \"last\"];
 class Page {
     constructor(journal, story) {
-        const view = new View(journal);
-        byId(\"whole\").innerHTML = wholeText(journal, story).html;
-        Object.assign(this, { journal, view, chosen: null, words: \"\", found: [], marks: new Set(), dragged: 0 });
-        this.painter = new Painter(this);
+        const view = new View(journal, () => this.draw());
+        const ownStep = (direction) => this.chosen && journal.stepsOfProcess(this.chosen, direction).next().value?.place;
+        tellWhole(journal, story);
+        Object.assign(this, { journal, view, painter: new Painter(this, view, journal), chosen: null, words: \"\", found: [], marks: new Set(), dragged: 0 });
         this.keys = {
-            ArrowLeft: () => view.pan(-view.steps / 8), ArrowRight: () => view.pan(view.steps / 8),
-            Home: () => view.show(0, view.steps), End: () => view.show(journal.steps, view.steps),
-            \"+\": () => view.zoom(0.7), \"-\": () => view.zoom(1 / 0.7), 0: () => view.show(0, journal.steps),
+            ArrowLeft: () => view.pan(-view.steps / 8), ArrowRight: () => view.pan(view.steps / 8), 0: () => view.show(0, journal.steps),
+            Home: () => view.show(0, view.steps), End: () => view.show(journal.steps, view.steps), Escape: () => this.choose(null),
+            \"+\": () => view.zoom(0.7), \"-\": () => view.zoom(1 / 0.7), \"/\": () => byId(\"find\").focus(), \"?\": () => byId(\"help\").showModal(),
             j: () => this.choose(this.chosen ? this.chosen.place + 1 : Math.ceil(view.first)), k: () => this.choose(this.chosen?.place - 1),
-            n: () => this.goFound(1), p: () => this.goFound(-1), w: () => this.choose(this.chosen?.end.by),
-            g: () => this.choose(this.chosen?.partner?.place), f: () => this.follow(this.chosen),
-            \"/\": () => byId(\"find\").focus(), \"?\": () => byId(\"help\").showModal(), Escape: () => this.choose(null),
+            J: () => this.choose(ownStep(1)), K: () => this.choose(ownStep(-1)), w: () => this.choose(this.chosen?.end.by),
+            g: () => this.choose(this.chosen?.partner?.place), f: () => this.chosen?.value && location.assign(`#${wayLink(this.chosen)}`),
+            n: () => this.goFound(1), p: () => this.goFound(-1), Enter: () => this.goFound(1),
+            \"<\": () => this.goFound(0, null), \">\": () => this.goFound(-1, null),
         };
-        document.title = byId(\"name\").textContent = location.pathname.split(\"/\").pop().replace(/\\.html$/, \"\").replace(/%../g, \"_\");
-        addEventListener(\"hashchange\", () => this.readLink());
-        addEventListener(\"keydown\", (event) => this.key(event));
+        document.title = byId(\"journal\").textContent = location.pathname.split(\"/\").pop().replace(/\\.html$/, \"\").replace(/%../g, \"_\");
         new ResizeObserver(() => this.layOut()).observe(byId(\"scroll\"));
         this.layOut();
         this.readLink();
@@ -37,69 +36,70 @@ class Page {
     }
     paint() {
         const { view, painter } = this, percent = (steps) => `${100 * steps / Math.max(1, this.journal.steps)}%`;
-        this.frame = 0;
-        view.arrange();
-        painter.paint(byId(\"lanes\"), byId(\"far\"));
-        painter.paintAxis(byId(\"axis\"));
+        this.frame = cancelAnimationFrame(this.frame);
+        painter.paint(byId(\"lanes\"), byId(\"far\"), byId(\"axis\"));
         Object.assign(byId(\"window\").style, { left: percent(view.first), width: percent(view.steps) });
     }
-    // Chooses the step at a place if it is there, or none.
-    choose(place) {
+    choose(place) {  // chooses the step at a place if it is there, or none
         if (place !== null && !(place >= 0 && place < this.journal.steps)) return;
         this.chosen = place === null ? null : this.journal.step(place);
         if (this.chosen) this.view.reveal(place);
-        byId(\"step\").innerHTML = this.chosen ? stepText(this.chosen, this).html : \"\";
-        byId(\"whole\").hidden = this.chosen !== null;
+        if (this.chosen) tellStep(this.chosen, this);
+        [byId(\"step\").hidden, byId(\"whole\").hidden] = [!this.chosen, !!this.chosen];
         this.draw();
     }
     changeSetting({ target: { id, dataset: { process, port }, value, checked } }) {
-        const { lanes, hidden } = this.view, { waits } = this.journal;
-        if (port) hidden[checked ? \"delete\" : \"add\"](Number(port));
-        if (id === \"order\") lanes.sort((one, other) => (value === \"by number\" ? 0 : waits[other.pid] - waits[one.pid]) || one.pid - other.pid);
+        const { lanes, ports } = this.view, { waits } = this.journal, byWaits = (one, other) => waits[other.pid] - waits[one.pid];
+        if (port) ports[checked ? \"add\" : \"delete\"](Number(port));
+        if (id === \"order\") lanes.sort((one, other) => (value === \"by number\" ? 0 : byWaits(one, other)) || one.pid - other.pid);
+        byId(\"processes\").append(...lanes.map(({ pid }) => document.querySelector(`tr:has([data-process=\"${pid}\"])`)));
         for (const lane of lanes) if (process === \"all\" || lane.pid === Number(process)) lane.form = value;
         this.layOut();
     }
-    // Search: block by block, so that the page stays awake
-    async find(words) {
-        const { journal } = this, tests = (words.match(/port \\d+|step \\d+|P\\d+|=\\S+|\\S+/gi) ?? []).map((word) => this.testOf(word));
-        Object.assign(this, { words, found: [], marks: new Set() });
-        for (let at = 0, told = performance.now(); at < journal.blocks && tests.length; at++) {
-            for (const step of journal.block(at).steps) if (tests.every((test) => test(step))) this.found.push(step.place);
+    async find(words) {  // search, list by list, so that the page stays awake: all steps, or those of the way of a value
+        const { journal } = this, [, way] = /^way (\\d+)$/i.exec(words) ?? [], start = journal.step(way - 1)?.sender, found = [];
+        const parts = way ? [] : words.match(/(port|step|waited) \\d+|P\\d+|=\\S+|\\S+/gi) ?? [], isEnd = (part) => ENDMOST.includes(part);
+        const tests = parts.filter((part) => !isEnd(part)).map((part) => this.testOf(part));
+        let told = performance.now();
+        Object.assign(this, { words, found, marks: new Set() });
+        for (const steps of start ? journal.wayOf(start) : words && !way ? journal.allSteps() : []) {
+            for (const step of steps) if (tests.every((test) => test(step))) found.push(step.place);
             if (performance.now() - told < 15) continue;
-            byId(\"count\").textContent = `${this.found.length}, searching`;
+            byId(\"count\").textContent = `${found.length}, searching`;
             await new Promise(requestAnimationFrame);
-            if (this.words !== words) return;
+            if (this.found !== found) return;
             told = performance.now();
         }
-        this.marks = new Set(this.found);
-        this.goFound(0);
+        this.marks = new Set(found);
+        this.goFound(parts.includes(\"last\") ? -1 : 0, parts.some(isEnd) ? null : this.chosen);
         this.layOut();
     }
     testOf(word) {
         const number = Number(/\\d+/.exec(word)), text = word.slice(1), end = Object.keys(ENDS).find((letter) => ENDS[letter] === word);
         if (/^P\\d+$/i.test(word)) return (step) => step.pid === number;
         if (/^step \\d+$/i.test(word)) return (step) => step.place === number - 1;
+        if (/^waited \\d+$/i.test(word)) return (step) => step.waits && step.waited === number;
         if (/^port \\d+$/i.test(word)) return (step) => step.ports.includes(number);
         if (word[0] === \"=\") return ({ value }) => value === text || value?.[0] === \"#\" && readable(value) === `\\u201c${text}\\u201d`;
         return end ? (step) => step.end.letter === end : (step) => step.title.includes(word);
     }
-    goFound(direction) {
-        const { found, words } = this, from = (this.chosen?.place ?? -1) + (direction > 0), after = found.findIndex((place) => place >= from);
-        const at = ((after < 0 ? found.length : after) - (direction < 0) + found.length) % found.length;
-        byId(\"count\").textContent = found.length ? `${at + 1} of ${found.length}` : words && \"none\";
+    goFound(direction, from = this.chosen) {
+        const { found, words } = this, own = found.indexOf(from?.place), behind = found.findIndex((place) => place > (from?.place ?? -1));
+        const next = own < 0 ? (behind < 0 ? found.length : behind) - (direction < 0) : own + direction, at = (next + found.length) % found.length;
+        const begin = from && direction === 0 ? `, ${own < 0 && behind < 0 ? \"none \" : \"\"}from step ${from.place + 1} on` : \"\";
+        byId(\"count\").textContent = found.length ? `${at + 1} of ${found.length}${begin}` : words && \"none\";
+        byId(\"none\").textContent = found.length || !words ? \"\" : `Nothing is found by ${words}.${from ? \" What was chosen stays:\" : \"\"}`;
         if (found.length) this.choose(found[at]);
     }
-    get isFollowing() { return this.words[0] === \"=\" && this.found.length > 0; }
-    follow(step) {
-        if (!step?.value) return;
-        this.choose(step.place);
-        this.find(byId(\"find\").value = `=${step.value}`);
+    async countTies(words, told) {
+        await this.find(byId(\"find\").value = words);
+        if (this.words === words) byId(\"ties\").textContent = `${this.found.length - told} more ${words} steps`;
+        this.choose(null);
     }
-    // Links: #step=60&find=P3&from=1&to=100
-    writeLink() {
+    get isFollowing() { return /^(=|way \\d+$)/.test(this.words) && this.found.length > 0; }
+    writeLink() {  // links: #step=60&find=P3&from=1&to=100
         const { view: { first, steps }, words: find, chosen } = this, parts = { from: Math.round(first) + 1, to: Math.round(first + steps) };
-        Object.assign(parts, find && { find }, chosen && { step: chosen.place + 1 });
-        history.replaceState(null, \"\", `#${new URLSearchParams(parts)}`);
+        history.replaceState(null, \"\", `#${new URLSearchParams(Object.assign(parts, find && { find }, chosen && { step: chosen.place + 1 }))}`);
     }
     readLink() {
         const { step, find, from, to } = Object.fromEntries(new URLSearchParams(location.hash.slice(1)));
@@ -107,38 +107,31 @@ class Page {
         this.choose(step ? step - 1 : null);
         if (find && find !== this.words) this.find(byId(\"find\").value = find).then(() => step && this.choose(step - 1));
     }
-    drag({ buttons, movementX, movementY }) {
-        if (!buttons) return;
+    drag({ movementX, movementY }) {
         this.dragged += Math.abs(movementX) + Math.abs(movementY);
         this.view.pan(-movementX / this.view.dots);
         byId(\"scroll\").scrollTop -= movementY;
-        this.draw();
     }
-    click({ target: { dataset: { step, bar, follow } }, offsetX }) {
-        const { view, journal } = this, call = bar && journal.step(Number(bar));
-        if (this.dragged > 4) return;
-        if (follow) this.follow(journal.step(Number(follow)));
-        else if (call) this.choose(call.end.letter ? call.end.by : call.place);
-        else if (step) this.choose(Number(step));
-        else if (view.steps > MOST_NEAR) view.reveal(view.stepAt(offsetX));
+    click({ target: { dataset: { link } }, offsetX }) {
+        if (link) location.hash = link;
+        else if (this.view.steps > MOST_NEAR) this.view.reveal(this.view.stepAt(offsetX));
     }
-    wheel(event) {
-        const { shiftKey, deltaX, deltaY, offsetX } = event;
-        event.preventDefault();
+    wheel({ shiftKey, deltaX, deltaY, offsetX }) {
         if (shiftKey || Math.abs(deltaX) > Math.abs(deltaY)) this.view.pan((deltaX + deltaY) / this.view.dots);
         else this.view.zoom(Math.exp(deltaY * 0.0018), offsetX);
-        this.draw();
     }
-    moveWhole({ buttons, offsetX }) {
-        if (buttons) this.view.show(offsetX / byId(\"strip\").clientWidth * this.journal.steps - this.view.steps / 2, this.view.steps);
-        this.draw();
+    moveWhole({ offsetX }) {
+        this.view.show(offsetX / byId(\"strip\").clientWidth * this.journal.steps - this.view.steps / 2, this.view.steps);
+    }
+    leaveFind(words) {  // what was typed is looked for when the cursor leaves the field, as it does by Enter
+        if (words === this.words) this.goFound(1);
+        byId(\"scroll\").focus();
     }
     key(event) {
-        const isElsewhere = event.ctrlKey || event.metaKey || event.altKey || byId(\"help\").open || event.target.matches(\"select, input\");
-        if (isElsewhere || !(event.key in this.keys)) return;
+        const { key, target } = event, isOwn = target.matches(key === \"Enter\" ? \"select, input, a, button\" : \"select, input\");
+        if (isOwn || event.ctrlKey || event.metaKey || event.altKey || byId(\"help\").open || !(key in this.keys)) return;
         event.preventDefault();
-        this.keys[event.key]();
-        this.draw();
+        this.keys[key]();
     }
 }
 var page = new Page(new Journal(byId(\"data\").firstChild.data.trimStart()), byId(\"story\").textContent.replace(/^\\n.*\\n/, \"\"));

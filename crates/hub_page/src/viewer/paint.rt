@@ -3,19 +3,21 @@
 pub(super) const FIRST: &[u8] =
     b"// Draws what is in view: from near by shapes that tell what they are, from farther off on a canvas. Colours are those of style.css.
 const HUES = 8, COLUMN = 2, hueOf = (port) => (port ? \"h\" + port % HUES : \"edge\");
-function node(tag, attributes, ...inside) {
+const sign = (element, attributes) => Object.entries(attributes).forEach(([name, value]) => element.setAttribute(name, value));
+function node(tag, { title, ...attributes }, ...inside) {
     const made = document.createElementNS(\"http://www.w3.org/2000/svg\", tag);
-    for (const [name, value] of Object.entries(attributes)) made.setAttribute(name, value);
-    made.append(...inside);
+    sign(made, attributes);
+    made.append(...(title ? [node(\"title\", {}, title)] : []), ...inside);
     return made;
 }
 class Painter {
-    constructor(page) { Object.assign(this, { page, view: page.view, journal: page.journal }); }
-    paint(lanes, canvas) {
+    constructor(page, view, journal) { Object.assign(this, { page, view, journal }); }
+    paint(lanes, canvas, axis) {
+        this.view.arrange();
+        this.paintAxis(axis);
         const { view } = this, { width, bottom: height } = view, isNear = view.steps <= MOST_NEAR;
         const clip = { x: LEFT - 2, viewBox: `${LEFT - 2} 0 ${width} ${height}`, width, height };
-        lanes.setAttribute(\"height\", height);
-        lanes.setAttribute(\"class\", `${this.page.isFollowing ? \"following\" : \"\"} ${isNear ? \"\" : \"far\"}`);
+        sign(lanes, { height, class: `${this.page.isFollowing ? \"following\" : \"\"} ${isNear ? \"\" : \"far\"}` });
         lanes.replaceChildren(...this.names(), node(\"svg\", clip, ...(isNear ? this.shapes() : [])));
         this.begin(canvas, width, height);
         if (view.steps > MOST_SHAPES) this.paintCounts();
@@ -32,15 +34,14 @@ class Painter {
             [name(`port ${port}`, floor - 8), line(floor, view.width), line(floor - STRIP + 8, view.width, \"full\")]));
     }
     shapes() {
-        const { view } = this, stalls = view.stalls(), rect = ({ title, ...more }, told = title) => node(\"rect\", more, node(\"title\", {}, told));
+        const { view } = this, stalls = this.journal.stallsOf(...view.range()), rect = (shape, { title } = shape) => node(\"rect\", { ...shape, title });
         return [
             ...stalls.flatMap((stall) => this.fields(stall)).map((field) => rect(field)), ...view.levels().map((level) => rect(this.level(level))),
-            ...view.arrows().flatMap((to) => this.arrow(to)), ...view.bars().flatMap((call) => [rect(this.bar(call), call.title), this.knob(call)]),
-            ...view.boxes().flatMap((step) => [rect(this.box(step), step.title), this.label(step)]), ...stalls.flatMap((stall) => this.guesses(stall)),
+            ...view.arrows().flatMap((to) => this.arrow(to)), ...view.bars().flatMap((call) => [rect(this.bar(call), call), this.knob(call)]),
+            ...view.boxes().flatMap((step) => [rect(this.box(step), step), this.label(step)]), ...stalls.flatMap((stall) => this.guesses(stall)),
         ];
     }
-    // The signs of a step that its shapes share.
-    signs(step) {
+    signs(step) {  // the signs of a step that its shapes share
         const { place, port, end, shown: { side } } = step, { page } = this;
         const signs = [hueOf(port), side, page.marks.has(place) && \"found\", place === page.chosen?.place && \"chosen\", step.isTrouble && \"trouble\",
             { \"\": \"open\", d: \"drained\", x: \"cancelled\" }[end.letter], \"mc\".includes(step.letter) && \"thick\"];
@@ -60,14 +61,14 @@ class Painter {
         const { view, page } = this, from = to.sender, [start, end] = [from, to].map((step) => view.place.get(step.lane));
         const side = Math.sign(end.y - start.y), x = view.x(from.end.by), toX = view.x(to.end.by);
         const y = start.y + (side || -1) * start.size / 2, toY = end.y - (side || 1) * end.size / 2, bend = side ? (y + toY) / 2 : y - 14;
-        const way = { d: `M${x},${y}C${x},${bend} ${toX},${bend} ${toX},${toY}`, \"data-follow\": to.place };
+        const way = { d: `M${x},${y}C${x},${bend} ${toX},${bend} ${toX},${toY}`, \"data-link\": wayLink(to) };
         const arrow = { ...way, class: `arrow ${hueOf(to.port)} ${page.marks.has(to.place) ? \"found\" : \"\"}`, \"marker-end\": \"url(#tip)\" };
-        return [node(\"path\", arrow), node(\"path\", { class: \"reach\", ...way }, node(\"title\", {}, to.title))];
+        return [node(\"path\", arrow), node(\"path\", { class: \"reach\", ...way, title: to.title })];
     }
     bar(call) {
         const { view } = this, { y, size } = view.place.get(call.lane), height = size * 0.45, x = Math.max(LEFT - 2, view.x(call.place));
         const width = Math.max(0, Math.min(view.width + 2, view.x(Math.min(call.end.by, this.journal.steps))) - x);
-        return { class: `bar ${this.signs(call)}`, x, y: y - height / 2, width, height, \"data-bar\": call.place };
+        return { class: `bar ${this.signs(call)}`, x, y: y - height / 2, width, height, \"data-link\": stepLink(call.end.letter ? call.end.by : call.place) };
     }
     knob(call) {
         const { x, y, width, height, ...more } = this.bar(call), place = { cx: x + width, cy: y + height / 2, r: Math.min(5, height * 0.6) };
@@ -76,37 +77,37 @@ class Painter {
     box(step) {
         const { view } = this, { y, size } = view.place.get(step.lane), width = view.boxWidth, small = view.dots < 5 ? \"small\" : \"\";
         const place = { x: view.x(step.place) - width / 2, y: y - size / 2, width, height: size };
-        return { class: `box ${this.signs(step)} ${small}`, ...place, \"data-step\": step.place };
+        return { class: `box ${this.signs(step)} ${small}`, ...place, \"data-link\": stepLink(step.place) };
     }
     label(step) {
         const { view } = this, { y, size } = view.place.get(step.lane), { label, value } = step;
         const text = size > 9 && [`${label}:${readable(value)}`, label].slice(value === null).find((text) => text.length * 6.2 <= view.boxWidth);
         return text ? node(\"text\", { class: `label ${this.signs(step)}`, x: view.x(step.place), y }, text) : \"\";
     }
-    guesses({ place, guesses }) {
-        const { view } = this, x = view.x(place) + view.boxWidth / 2 + 3;
-        return Object.values(guesses).map((pair) => pair.map((pid) => view.place.get(pid))).filter(([from, to]) => from && to).map(([from, to]) => {
-            const far = x + (from.y < to.y ? 20 : 40), way = `M${x},${from.y}C${far},${from.y} ${far},${to.y} ${x},${to.y}`;
-            return node(\"path\", { class: \"guess\", d: way, \"marker-end\": \"url(#tip)\" });
+    guesses(stall) {
+        const { view } = this, x = view.x(stall.place) + view.boxWidth / 2 + 3;
+        const ends = this.journal.casesOf(stall).map(({ step, other }) => [step.pid, other].map((pid) => view.place.get(pid)));
+        return ends.filter(([from, to]) => from && to).map(([from, to]) => {
+            const far = x + (from.y < to.y ? 20 : 40);
+            return node(\"path\", { class: \"guess\", d: `M${x},${from.y}C${far},${from.y} ${far},${to.y} ${x},${to.y}`, \"marker-end\": \"url(#tip)\" });
         });
     }
     begin(canvas, width, height) {
         const fine = devicePixelRatio || 1;
         [canvas.width, canvas.height, canvas.style.height] = [Math.round(width * fine), Math.round(height * fine), height + \"px\"];
-        [this.style, this.colours] = [getComputedStyle(canvas), {}];
-        this.pen = Object.assign(canvas.getContext(\"2d\"), { font: \"11px system-ui, sans-serif\" });
+        const pen = Object.assign(canvas.getContext(\"2d\"), { font: \"11px system-ui, sans-serif\" });
+        Object.assign(this, { pen, style: getComputedStyle(canvas), colours: {} });
         this.pen.scale(fine, fine);
     }
     colour(name) { return this.colours[name] ??= this.style.getPropertyValue(\"--\" + name); }
     fill(name, x, y, width, height) { Object.assign(this.pen, { fillStyle: this.colour(name) }).fillRect(x, y, width, height); }
     paintShapes() {
         const { view } = this, shapes = [...view.levels().map((level) => this.level(level)), ...view.bars().map((call) => this.bar(call)),
-            ...view.boxes().map((step) => this.box(step)), ...view.stalls().flatMap((stall) => this.fields(stall))];
+            ...view.boxes().map((step) => this.box(step)), ...this.journal.stallsOf(...view.range()).flatMap((stall) => this.fields(stall))];
         const colourOf = (signs) => (/trouble|field/.test(signs) ? \"trouble\" : /h\\d|edge/.exec(signs)[0]);
         for (const { class: signs, x, y, width, height } of shapes) this.fill(colourOf(signs), x, y, width, height);
     }
-    // In columns of dots the waits as a band as high as their share, the steps as a thinner one on it, and troubles.
-    paintCounts() {
+    paintCounts() {  // in columns of dots: waits as a band as high as their share, steps as a thinner one on it, troubles
         const { view, journal } = this, width = Math.floor(view.width - LEFT - RIGHT), scale = view.steps / width;
         const edge = (column) => Math.min(journal.steps, view.first + column * scale);
         const bands = [[\"waited\", \"h1\", 0.8], [\"asked\", \"edge\", 1.2], [\"troubles\", \"trouble\", Infinity]];
@@ -115,14 +116,15 @@ class Painter {
             this.fillColumns(colour, LEFT, width, y, (column) => sizeOf(journal.share(name, pid, edge(column), edge(column + COLUMN))));
         }
         for (const [row, port] of view.strips().entries()) {
-            const one = (STRIP - 8) / journal.rooms[port - 1], sizeOf = (column) => one * journal.mostOf(port, edge(column), edge(column + COLUMN));
+";
+
+pub(super) const SECOND: &[u8] =
+    b"            const one = (STRIP - 8) / journal.rooms[port - 1], sizeOf = (column) => one * journal.mostOf(port, edge(column), edge(column + COLUMN));
             this.fillColumns(hueOf(port), LEFT, width, view.floor(row), sizeOf, 1);
         }
     }
     fillColumns(colour, left, width, y, sizeOf, above = 0.5) {
-";
-
-pub(super) const SECOND: &[u8] = b"        this.pen.fillStyle = this.colour(colour);
+        this.pen.fillStyle = this.colour(colour);
         for (let column = 0; column < width; column += COLUMN) {
             const size = sizeOf(column);
             if (size > 0.2) this.pen.fillRect(left + column, y - size * above, COLUMN, size);
@@ -135,8 +137,7 @@ pub(super) const SECOND: &[u8] = b"        this.pen.fillStyle = this.colour(colo
         Object.assign(this.pen, { textAlign: \"center\", fillStyle: this.colour(\"dim\") }).fillText(\"step\", LEFT - 36, 14);
         for (let step = Math.ceil((first + 1) / every) * every; step <= end; step += every) this.pen.fillText(step, view.x(step - 1), 14);
     }
-    // The whole: how many wait, where it stalled, and what was found. Of few steps each call is counted, since a block is wide there.
-    paintWhole(canvas, found) {
+    paintWhole(canvas, found) {  // of few steps each call is counted, since a block is wide there
         const { journal } = this, { procs, stalls } = journal, count = Math.max(1, journal.steps), width = canvas.parentElement.clientWidth;
         const x = (step) => Math.floor(step / scale), scale = count / width;
         this.begin(canvas, width, 54);
@@ -146,7 +147,6 @@ pub(super) const SECOND: &[u8] = b"        this.pen.fillStyle = this.colour(colo
         this.fillColumns(\"h1\", 0, width, 48, (column) => 32 * waiting(column * scale, (column + COLUMN) * scale), 1);
         for (const place of stalls) this.fill(\"trouble\", x(place), 16, Math.max(2, x(1)), 32);
         for (const column of new Set(found.map(x))) this.fill(\"on\", column, 48, 2, 6);
-        Object.assign(this.pen, { fillStyle: this.colour(\"dim\") }).fillText(`how many of ${procs} wait${stalls.length ? \"; orange: deadlocks\" : \"\"}`, 6, 11);
     }
 }
 ";

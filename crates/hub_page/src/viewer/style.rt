@@ -46,7 +46,7 @@ button:hover { background: var(--soft); }
 #axis { position: sticky; top: 0; background: var(--paper); z-index: 1; border-bottom: 1px solid var(--line); }
 #far, #lanes { position: absolute; top: 0; left: 0; }
 #lanes { touch-action: none; cursor: default; }
-[data-step], [data-bar], .reach { cursor: pointer; }
+[data-link] { cursor: pointer; }
 #lanes.far { cursor: zoom-in; }
 #lanes.far .line { opacity: 0.4; }
 /* The signs of shapes. */
@@ -88,18 +88,24 @@ button:hover { background: var(--soft); }
 #panel label { white-space: nowrap; }
 #panel td { padding: 1px 6px 1px 0; vertical-align: top; font-variant-numeric: tabular-nums; }
 #panel .lines { overflow-wrap: normal; }
+#panel code { overflow-wrap: anywhere; }
+#none { color: var(--words); }
+/* What tells nothing is not shown. */
+#none:empty, #ties:empty, ul:empty, h3:has(+ ul:empty), tr:has(th + td:empty), tr:has(td > ul:empty) { display: none; }
+#stall:has(#stalled:empty), #waits:has(#longest:empty), p:has(> #empty:empty) { display: none; }
 #panel .lines tr { border-bottom: 1px solid var(--line); }
 #panel p { margin: 4px 0; }
 #panel ul { margin: 0; padding: 0; list-style: none; }
 #panel li { margin: 3px 0; }
 code { font: 12px ui-monospace, monospace; }
 a { color: var(--link); white-space: nowrap; }
-pre { overflow-x: auto; font: 12px ui-monospace, monospace; }
+pre { white-space: pre-wrap; font: 12px ui-monospace, monospace; }
 .dim { color: var(--dim); }
 b.trouble { color: var(--words); }
 .fired { font-weight: bold; }
 footer { position: relative; grid-area: 3 / 1 / auto / 3; border-top: 1px solid var(--line); padding: 4px 0; }
 #strip { cursor: pointer; touch-action: none; }
+#caption { position: absolute; top: 5px; left: 6px; margin: 0; font-size: 11px; line-height: 12px; color: var(--dim); pointer-events: none; }
 #window { position: absolute; top: 17px; height: 36px; min-width: 3px; border: 2px solid var(--on); pointer-events: none; }
 dialog { background: var(--paper); color: var(--text); border: 1px solid var(--rule); border-radius: 8px; max-width: 46em; }
 dialog form { float: right; }

@@ -5,9 +5,9 @@ pub(super) const TEXT: &[u8] =
 const LEFT = 64, RIGHT = 44, AXIS = 26, STRIP = 24, FOLDED = 8, LEAST_LANE = 16, MOST_LANE = 40, NEAREST = 90, CLOSE = 60;
 const MOST_NEAR = 500, MOST_SHAPES = 6000;  // so many steps have arrows, and tell what they are; so many are drawn one by one
 class View {
-    constructor(journal) {
-        // The step at the left edge and how many are in view, with fractions; and the ports that are not shown.
-        Object.assign(this, { journal, width: 100, height: 100, first: 0, steps: Math.max(1, journal.steps), hidden: new Set() });
+    constructor(journal, changed) {  // at the left edge is the step first, with a fraction; ports have a strip if they held a value
+        Object.assign(this, { journal, changed, width: 100, height: 100, first: 0, steps: Math.max(1, journal.steps) });
+        this.ports = new Set(numbers(1, journal.ports + 1).filter((port) => journal.rooms[port - 1]));
         this.lanes = journal.waits.map((_, pid) => ({ pid, form: \"open\" }));
     }
     get dots() { return (this.width - LEFT - RIGHT) / this.steps; }
@@ -16,8 +16,7 @@ class View {
     stepAt(x) { return Math.floor(this.first + (x - LEFT) / this.dots); }
     range() { return [Math.floor(this.first), Math.min(this.journal.steps, Math.ceil(this.first + this.steps))]; }
     isShown(...steps) { return steps.every((step) => this.place.has(step.lane)); }
-    // The ports that have a strip: those that held a value and are not hidden.
-    strips() { return numbers(1, this.journal.ports + 1).filter((port) => this.journal.rooms[port - 1] && !this.hidden.has(port)); }
+    strips() { return [...this.ports].sort((one, other) => one - other); }
     floor(row) { return this.stripTop + (row + 1) * STRIP - 4; }
     arrange() {
         const onTop = (lane) => lane.form === \"on top\", isFolded = (lane) => lane.form === \"folded\";
@@ -36,6 +35,7 @@ class View {
         const count = Math.max(1, this.journal.steps);
         this.steps = Math.min(count, Math.max((this.width - LEFT) / NEAREST, steps));
         this.first = Math.min(count - this.steps, Math.max(0, first));
+        this.changed();
     }
     pan(steps) { this.show(this.first + steps, this.steps); }
     zoom(factor, x = (LEFT + this.width) / 2) {
@@ -43,28 +43,23 @@ class View {
         this.show(0, this.steps * factor);
         this.show(step - share * this.steps, this.steps);
     }
-    // Brings a step into view, so near that it can be seen.
-    reveal(step) {
+    reveal(step) {  // brings a step into view, so near that it can be seen
         const steps = this.steps > MOST_NEAR ? CLOSE : this.steps, isOff = Math.abs(step - this.first - steps / 2) > steps * 0.42;
         if (isOff || this.steps > MOST_NEAR) this.show(step + 0.5 - steps / 2, steps);
     }
     boxes() { return this.journal.stepsOf(...this.range()).filter((step) => this.isShown(step)); }
     bars() { return this.journal.goingOn(...this.range()).filter((call) => call.waits && this.isShown(call)); }
-    // The receivers of the values of which at least one end is in view.
-    arrows() {
+    arrows() {  // the receivers of the values of which at least one end is in view
         const receivers = this.journal.endsOf(...this.range()).map((call) => call.receiver?.place);
         return [...new Set(receivers)].map((place) => this.journal.step(place)).filter((to) => to && this.isShown(to, to.sender));
     }
-    // What ports hold as far as it can be seen: each count from one step until another.
-    levels() {
+    levels() {  // what ports hold as far as it can be seen: each count from one step until another
         const { journal } = this, [first, last] = this.range(), end = Math.min(journal.steps, this.stepAt(this.width) + 2), at = journal.blockAt(first);
-        const before = (port) => ({ port, from: at * BLOCK - 1, count: journal.levelBefore(at, port) });
-        const told = new Map(this.strips().map((port) => [port, [before(port)]]));
+        const told = new Map(this.strips().map((port) => [port, [{ port, from: at * BLOCK - 1, count: journal.levelBefore(at, port) }]]));
         for (const level of numbers(at, Math.ceil(Math.max(end, last) / BLOCK)).flatMap((at) => journal.block(at).levels))
             if (level.count !== told.get(level.port)?.at(-1).count) told.get(level.port)?.push(level);
         const levels = [...told.values()].flatMap((own, row) => own.map((level, at) => ({ ...level, row, until: own[at + 1]?.from ?? Math.max(end, first) })));
         return levels.filter((level) => level.count && level.until >= first && level.from < last);
     }
-    stalls() { return this.journal.stallsOf(...this.range()); }
 }
 ";

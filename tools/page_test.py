@@ -948,7 +948,7 @@ def check_waits(browser, count, path):
     browser.value("document.querySelector('#ties button').click()")
     browser.settle()
     ties = texts(browser, "#ties")
-    count.test("how many more waited as long", more > 9 and ties == [f"{more} more waited {told[4][0]} steps"], (ties, more))
+    count.test("how many more waited as long", more > 9 and ties == [f"{more} more waited as long as the last"], (ties, more))
     count.test("the whole is still told", title(browser) == "The whole", title(browser))
     waited = sorted(int(re.search(r"step (\d+)", wait[1])[1]) - 1 for wait in told if wait[0] == told[4][0])
     count.test("these waits are found", browser.value("page.found") == waited, browser.value("page.found"))

@@ -152,7 +152,9 @@ class Journal {
         });
     }
     mostOf(port, first, end) {
-        return numbers(this.blockAt(first), Math.ceil(end / BLOCK)).reduce((most, at) => Math.max(most, this.most[(at + 1) * this.width + port]), 0);
+        let most = 0;
+        for (let at = this.blockAt(first); at * BLOCK < end; at++) most = Math.max(most, this.most[(at + 1) * this.width + port]);
+        return most;
     }
     stepsOfProcess({ place, pid, lane }, direction) {  // behind a step (1) or before it (-1), the nearest first
         const blocks = this.blocksWith(this.asked, this.lanes, lane, this.blockAt(place), direction);

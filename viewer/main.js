@@ -90,7 +90,7 @@ class Page {
     }
     async countTies(words, told) {
         await this.find(byId("find").value = words);
-        if (this.words === words) byId("ties").textContent = `${this.found.length - told} more ${words} steps`;
+        if (this.words === words) byId("ties").textContent = `${this.found.length - told} more waited as long as the last`;
         this.choose(null);
     }
     get isFollowing() { return /^(=|way \d+$)/.test(this.words) && this.found.length > 0; }

@@ -92,9 +92,8 @@ class Painter {
     begin(canvas, width, height) {
         const fine = devicePixelRatio || 1;
         [canvas.width, canvas.height, canvas.style.height] = [Math.round(width * fine), Math.round(height * fine), height + "px"];
-        const pen = Object.assign(canvas.getContext("2d"), { font: "11px system-ui, sans-serif" });
-        Object.assign(this, { pen, style: getComputedStyle(canvas), colours: {} });
-        this.pen.scale(fine, fine);
+        Object.assign(this, { pen: canvas.getContext("2d"), style: getComputedStyle(canvas), colours: {} });
+        Object.assign(this.pen, { font: "11px system-ui, sans-serif" }).scale(fine, fine);
     }
     colour(name) { return this.colours[name] ??= this.style.getPropertyValue("--" + name); }
     fill(name, x, y, width, height) { Object.assign(this.pen, { fillStyle: this.colour(name) }).fillRect(x, y, width, height); }

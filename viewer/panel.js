@@ -60,8 +60,7 @@ function tellWhole(journal, story) {  // of deadlocks the first and the last fou
     const box = (port) => html`<label><input type="checkbox" data-port="${port}" ${rooms[port - 1] > 0 && "checked"}> port ${port}</label> `;
     const boxes = (isHeld) => numbers(1, rooms.length + 1).filter((port) => isHeld === rooms[port - 1] > 0).map(box);
     put({
-        size: `${counted(steps, "step")} of ${procs} processes on ${counted(rooms.length, "port")}`,
-        deadlocks: counted(stalls.length, "deadlock"),
+        size: `${counted(steps, "step")} of ${procs} processes on ${counted(rooms.length, "port")}`, deadlocks: counted(stalls.length, "deadlock"),
         stalls: items([...stalls.slice(0, 1).map(stalled), ...gap, ...stalls.slice(1).slice(-4).map(stalled)]),
         longest: rowsOf(longest.map((step) => [step.waited, called(step, who(step)), until(step)])),
         ties: longest.length > 4 && html`<button onclick="page.countTies('waited ${least}', ${ties})">How many more waited ${least}?</button>`,

@@ -68,7 +68,7 @@ function tellWhole(journal, story) {  // of deadlocks the first and the last fou
         longest: rowsOf(longest.map((step) => [step.waited, called(step, who(step)), until(step)])),
         ties: longest.length > 4 && html`<button onclick=\"page.countTies('waited ${least}', ${ties})\">How many more waited ${least}?</button>`,
         held: boxes(true), empty: boxes(false), processes: rowsOf(waits.map((waited, lane) => [name(lane), asks[lane], waited, exit(lane), shownAs(lane)])),
-        end: { html: story.replace(/^ *\\d+ (of .*| +P.*)\\n/gm, \"\").replace(/(?<=step )\\d+/g, (step) => link(step - 1, step).html) },
+        end: { html: story.replace(/^ *\\d+ +P.*\\n|, the longest first.*|^ {10}/gm, \"\").replace(/(?<=step )\\d+/g, (step) => link(step - 1, step).html) },
     });
 }
 ";

@@ -165,6 +165,11 @@ has mandoc || has_man_db || skip 'manual pages: neither mandoc nor man-db'
 for call in $calls; do
     grep -q "^\.F[no] $call\b" man/chanhub.3 && grep -q "^\.Nm $call\b" man/chanhub.3 || fail "chanhub.3 lacks $call"
 done
+commands=$(sed -n 's/^ *"\([a-z]*\)" => Ok.*Command::.*/\1/p' ../crates/chanhub_tool/src/commands.rt)
+[ -n "$commands" ] || fail 'the commands of chanhub_tool'
+for command in $commands; do
+    grep -qx "\.Cm $command" man/chanhub_tool.1 && grep -q "^\.It Nm Cm $command\b" man/chanhub_tool.1 || fail "chanhub_tool.1 lacks $command"
+done
 
 # Pip builds where the sources are, so it gets a copy.
 packs="import sys, setuptools

@@ -10,6 +10,10 @@
 #ifndef CHANHUB_HPP
 #define CHANHUB_HPP
 
+#if __cplusplus < 201703L
+#error "chanhub.hpp needs C++17 or later, as by -std=c++17; chanhub.h needs C++11"
+#endif
+
 #include "chanhub.h"
 
 #include <chrono>
@@ -66,6 +70,8 @@ struct chanhub {
         NoMemory = CHANHUB_NO_MEMORY,
         NotParked = CHANHUB_NOT_PARKED,
         BadCall = CHANHUB_BAD_CALL,
+        Diverged = CHANHUB_DIVERGED,
+        NotYet = CHANHUB_NOT_YET,
     };
 
     // Edition 1 has only numbers as values, 8 cases in a select, and no cancel.
@@ -152,7 +158,7 @@ struct chanhub::Told {
     Fault fault;    // why the hub did not carry out the call, where the outcome is Fault
     unsigned index; // the case that fired
     Port port;      // the port that was made
-    Value value;    // what was received
+    Value value;    // what was received; for the fault Diverged, the number of the journal's step
 
     explicit Told(const chanhub_told &told) noexcept
         : outcome(static_cast<Outcome>(told.what)), fault(static_cast<Fault>(told.fault)), index(told.index),
@@ -163,14 +169,17 @@ struct chanhub::Told {
         const std::string name = chanhub_what_name(static_cast<int>(outcome));
         if (outcome != Outcome::Fault) return name;
         const int number = static_cast<int>(fault);
-        return name + ' ' + std::to_string(number) + ": " + chanhub_strfault(number);
+        const std::string step = fault == Fault::Diverged ? ": step " + std::to_string(value.number()) : "";
+        return name + ' ' + std::to_string(number) + ": " + chanhub_strfault(number) + step;
     }
 };
 
 // Why a hub was not opened, or how a call ended if its short form has no result for that.
 class chanhub::Error : public std::runtime_error {
 public:
-    explicit Error(int opening) : std::runtime_error(std::string("chanhub: ") + chanhub_strerror(opening)), opening_(opening) {}
+    explicit Error(int opening, std::uint32_t line = 0)
+        : std::runtime_error(std::string("chanhub: ") + chanhub_strerror(opening) + (line ? ", in line " + std::to_string(line) : "")),
+          opening_(opening) {}
     explicit Error(const Told &told) : std::runtime_error("chanhub: " + told.text()), told_(told) {}
 
     // What chanhub_open returned; 0 if it was a call that failed.
@@ -403,6 +412,15 @@ public:
         return *std::move(hub);
     }
 
+    // A hub that follows a journal, as the comment below chanhub_open_with says. Throws Error if it cannot be opened.
+    [[nodiscard]] static Hub follow(std::string_view journal, bool goes_on = false) {
+        int error = 0;
+        std::uint32_t line = 0;
+        std::optional<Hub> hub = open_following(journal, goes_on, &error, &line);
+        if (!hub) throw Error(error, line);
+        return *std::move(hub);
+    }
+
     // The same without exceptions: nothing if it cannot be opened, and then *error is the cause, for chanhub_strerror.
     [[nodiscard]] static std::optional<Hub> open(unsigned procs, std::uint32_t limit = most_steps, Edition edition = Edition::Two,
                                                  int *error = nullptr) noexcept {
@@ -432,6 +450,17 @@ public:
         });
     }
 
+    // If the journal is refused, *line is the number of its faulty line.
+    [[nodiscard]] static std::optional<Hub> open_following(std::string_view journal, bool goes_on = false, int *error = nullptr,
+                                                           std::uint32_t *line = nullptr) noexcept {
+        chanhub_options c = {};
+        c.journal = journal.data() ? journal.data() : "";
+        c.journal_length = journal.size();
+        c.goes_on = goes_on;
+        c.journal_line = line;
+        return opened(nullptr, error, [&c](chanhub **hub, chanhub_chapters *, void *) { return chanhub_open_with(hub, &c); });
+    }
+
     [[nodiscard]] Seat seat(unsigned pid) const noexcept { return {hub_.get(), pid}; }
 
     [[nodiscard]] Counts look(Port port) const noexcept { return chanhub_look(hub_.get(), static_cast<unsigned>(port)); }
@@ -450,6 +479,9 @@ public:
 
     // Has the time of the process's waiting call be up. Returns false if it has no waiting call with such a time.
     bool expire(unsigned pid) const noexcept { return chanhub_expire(hub_.get(), pid); }
+
+    // Ends a hub that follows a journal: all calls that wait, and all later ones, end with the fault Diverged.
+    void stop() const noexcept { chanhub_stop(hub_.get()); }
 
     // Whether it was cut.
     [[nodiscard]] bool cut() const noexcept { return chanhub_cut(hub_.get()); }

@@ -485,6 +485,52 @@ static void options() {
     is("both a limit and an endless hub", thrown);
 }
 
+// Whether no hub follows this text, for this cause and in this line.
+static void is_refused(const char *name, std::string_view text, int cause, std::uint32_t line, const char *what) {
+    int error = 0;
+    std::uint32_t told = 0;
+    is(name, !Hub::open_following(text, false, &error, &told) && error == cause && told == line);
+    bool thrown = false;
+    try {
+        static_cast<void>(Hub::follow(text));
+    } catch (const chanhub::Error &refused) {
+        thrown = refused.opening() == cause && std::strcmp(refused.what(), what) == 0;
+    }
+    is(name, thrown);
+}
+
+static void follows() {
+    const std::string journal = "chanhub journal 2\nprocs 1\n0 make 1\n0 send 1 7\n0 recv 1\n";
+    const char *const text = "chanhub: fault 14: the journal that the hub follows has another step here: step 4";
+    const Hub hub = Hub::follow(journal);
+    const Seat seat = hub.seat(0);
+    const Port port = seat.make(1);
+    seat.send(port, 7);
+    is("followed", seat.recv(port) == Value(7) && hub.journal() == journal);
+    throws("behind the end", Outcome::Fault, Fault::Diverged, text, [&] { seat.send(port, 8); });
+    is_fault("ended", seat.recv_told(port), Fault::Diverged);
+
+    const Hub free = Hub::follow(journal, true);
+    is("made", free.seat(0).make(1) == port);
+    const Told other = free.seat(0).send_told(port, 8);
+    is_fault("another value", other, Fault::Diverged);
+    is("its step", other.value == Value(2));
+    free.seat(0).send(port, 8);
+    is("goes on", free.seat(0).recv(port) == Value(8));
+
+    const Hub stopped = Hub::follow(journal);
+    stopped.stop();
+    const Told told = stopped.seat(0).make_told(1);
+    is_fault("stopped", told, Fault::Diverged);
+    is("the step that would be next", told.value == Value(1));
+
+    is_refused("no journal", {}, 5, 1, "chanhub: the journal to follow is malformed, in line 1");
+    is_refused("no word", "chanhub journal 2\nprocs 1\n0 mak 1\n", 5, 3,
+               "chanhub: the journal to follow is malformed, in line 3");
+    is_refused("a step after an exit", "chanhub journal 2\nprocs 1\n0 exit\n0 make 1\n", 6, 4,
+               "chanhub: the journal to follow has a step that no hub admits there, in line 4");
+}
+
 int main(int argc, char **argv) {
     alarm(SECONDS);
     if (argc == 2 && std::strcmp(argv[1], "throws") == 0) {
@@ -505,6 +551,7 @@ int main(int argc, char **argv) {
     resumes();
     times();
     options();
+    follows();
     exits();
     chapters();
     chapters_of_threads();

@@ -1,8 +1,8 @@
 #!/bin/sh
 # package.sh: installs the library of out/, as it is, into a folder of its own, and uses it as others would: by pkg-config and by
-# CMake, each over the shared and the static library. Reads the manual pages, builds the example of chanhub.3, installs the Python
-# package by pip, lists the Rust package, and uninstalls. Prints nothing if all is well, but what is skipped, and why: what needs a
-# command that the machine lacks.
+# CMake, each over the shared and the static library. Installs stand-ins for the programs. Reads the manual pages, builds the example
+# of chanhub.3, installs the Python package by pip, lists the Rust package, and uninstalls. Prints nothing if all is well, but what is
+# skipped, and why: what needs a command that the machine lacks.
 set -eu
 cd "$(dirname "$0")/.."
 cc=${CC:-cc}
@@ -55,11 +55,27 @@ calls=$(grep -v '^typedef' chanhub.h | grep -o '\bchanhub_[a-z_]*(' | tr -d '(' 
 printf '%s\n' 9 'chanhub journal 2' 'procs 1' '0 make 1' '0 send 1 9' '0 recv 1' '0 recv 1' > "$work/first"
 sed -n '/^#include/,/^\.Ed/p' man/chanhub.3 | sed '/^\.Ed/d; s/\\e/\\/g' > "$work/example.c"
 
+# Stand-ins for the programs, which say their names.
+mkdir "$work/programs"
+for name in chanhub chanhub_tool; do
+    printf '#!/bin/sh\necho %s\n' "$name" > "$work/programs/$name"
+done
+
+# installs_programs [FOLDER=PATH ..]: whether both can be run from where they are installed.
+installs_programs() {
+    make_as_it_is install-programs BUILD=: PREFIX="$prefix" "$@" \
+        PROGRAM="$work/programs/chanhub" TOOL="$work/programs/chanhub_tool"
+    for name in chanhub chanhub_tool; do
+        [ "$("$(find "$prefix" -name "$name" -type f -perm 755)")" = "$name" ] || fail "the program $name"
+    done
+}
+
 # installs NAME [FOLDER=PATH ..]: installs the library below $work/NAME, and sees that it is used from there by all ways.
 installs() {
     prefix=$work/$1
     shift
     make_as_it_is install PREFIX="$prefix" "$@"
+    installs_programs "$@"
     library=$(dirname "$(find "$prefix" -name libchanhub.a)")
     [ "$(readlink "$library/libchanhub.so")" = libchanhub.so.1 ] || fail 'the link to the shared library'
     uses_pkg_config "$library"
@@ -128,7 +144,7 @@ has_static_c || skip 'pkg-config --static: no static C library'
 has cmake || skip 'CMake: not there'
 installs usual
 installs multiarch LIBDIR=lib/x86_64-linux-gnu
-installs full LIBDIR="$work/full/lib64" INCLUDEDIR="$work/full/include/chanhub" MANDIR="$work/full/man"
+installs full BINDIR="$work/full/sbin" LIBDIR="$work/full/lib64" INCLUDEDIR="$work/full/include/chanhub" MANDIR="$work/full/man"
 
 # All of it lies below DESTDIR, and no file names DESTDIR.
 make_as_it_is install DESTDIR="$work/a stage" PREFIX=/usr
@@ -168,7 +184,8 @@ done
 commands=$(sed -n 's/^ *"\([a-z]*\)" => Ok.*Command::.*/\1/p' ../crates/chanhub_tool/src/commands.rt)
 [ -n "$commands" ] || fail 'the commands of chanhub_tool'
 for command in $commands; do
-    grep -qx "\.Cm $command" man/chanhub_tool.1 && grep -q "^\.It Nm Cm $command\b" man/chanhub_tool.1 || fail "chanhub_tool.1 lacks $command"
+    grep -qx "\.Cm $command" man/chanhub_tool.1 && grep -q "^\.It Nm Cm $command\b" man/chanhub_tool.1 ||
+        fail "chanhub_tool.1 lacks $command"
 done
 
 # Pip builds where the sources are, so it gets a copy.

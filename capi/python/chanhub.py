@@ -246,7 +246,11 @@ def _library() -> ctypes.CDLL:
     here = os.path.dirname(os.path.abspath(__file__))
     places = [os.path.join(here, 'libchanhub.so'), os.path.join(here, '..', 'out', 'libchanhub.so')]
     path = os.environ.get('CHANHUB_LIBRARY') or next(filter(os.path.exists, places), 'libchanhub.so.1')
-    library = ctypes.CDLL(path)
+    try:
+        library = ctypes.CDLL(path)
+    except OSError as error:
+        raise ImportError(f'{error}\nBuild the library, by `make -C capi` at the top of chanhub\'s repository, or install it where the '
+                          f'loader looks,\nor have CHANHUB_LIBRARY name the file libchanhub.so.') from None
     hub, number, size = ctypes.c_void_p, ctypes.c_uint, ctypes.POINTER(ctypes.c_size_t)
     for name, result, arguments in (
             ('open', ctypes.c_int, [ctypes.POINTER(hub), number, number, ctypes.c_uint32]),

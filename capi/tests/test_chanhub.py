@@ -265,6 +265,14 @@ def until(is_so):
         time.sleep(0.001)
 
 
+class Loading(unittest.TestCase):
+    def test_a_library_that_is_missing_is_an_import_error_that_says_what_to_do(self):
+        status, said = ran("import os\nos.environ['CHANHUB_LIBRARY'] = '/no/libchanhub.so'\nimport chanhub\n")
+        self.assertEqual(status, 1)
+        self.assertIn('\nImportError: /no/libchanhub.so: ', said)
+        self.assertIn('make -C capi', said)
+
+
 class Chapters(unittest.TestCase):
     def setUp(self):
         folder = tempfile.TemporaryDirectory()

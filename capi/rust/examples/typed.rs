@@ -1,6 +1,6 @@
 //! A producer, a consumer, and a select of both their results. crossbeam/typed.rs is the same program with crossbeam's channels.
 
-use chanhub::{typed, Edition, Hub, Seat};
+use chanhub::{select, typed, Edition, Hub, Seat};
 use std::error::Error;
 use std::thread;
 
@@ -29,15 +29,10 @@ fn main() -> Result<(), Box<dyn Error>> {
     let (from_squares, from_reports) = (from_squares.bind(&boss), from_reports.bind(&boss));
     let (mut sum, mut report) = (0, String::new());
     for _ in 0..11 {
-        let mut select = typed::Select::new(&boss);
-        let square = select.recv(&from_squares);
-        select.recv(&from_reports);
-        let fired = select.select()?;
-        if fired.index() == square {
-            sum += fired.recv(&from_squares)?;
-        } else {
-            report = fired.recv(&from_reports)?;
-        }
+        select! {
+            recv(from_squares) -> square => sum += square?,
+            recv(from_reports) -> text => report = text?,
+        }?;
     }
     println!("{report} {sum}");
     Ok(())

@@ -65,6 +65,7 @@ use std::sync::atomic::{AtomicBool, AtomicUsize, Ordering};
 use std::sync::Arc;
 use std::time::Duration;
 
+mod macros;
 mod select;
 
 pub use select::{Select, SelectTimeoutError, SelectedOperation};
@@ -379,7 +380,12 @@ impl<T> Deref for BoundReceiver<'_, T> {
     }
 }
 
-impl<T> BoundSender<'_, T> {
+impl<'a, T> BoundSender<'a, T> {
+    /// Returns the seat to which the sender is bound.
+    pub fn seat(&self) -> &'a Seat {
+        self.seat
+    }
+
     /// Sends a value. Waits until a receiver takes it or the buffer has room for it.
     ///
     /// # Errors
@@ -469,6 +475,11 @@ impl<T> BoundSender<'_, T> {
 }
 
 impl<'a, T> BoundReceiver<'a, T> {
+    /// Returns the seat to which the receiver is bound.
+    pub fn seat(&self) -> &'a Seat {
+        self.seat
+    }
+
     /// Receives a value. Waits until there is one.
     ///
     /// # Errors

@@ -1,6 +1,6 @@
 //! The program of ../typed.rs with crossbeam's channels. Cargo does not build this file here, since the crate has no dependencies.
 
-use crossbeam_channel::{bounded, Select};
+use crossbeam_channel::{bounded, select};
 use std::error::Error;
 use std::thread;
 
@@ -24,14 +24,9 @@ fn main() -> Result<(), Box<dyn Error>> {
     });
     let (mut sum, mut report) = (0, String::new());
     for _ in 0..11 {
-        let mut select = Select::new();
-        let square = select.recv(&from_squares);
-        select.recv(&from_reports);
-        let fired = select.select();
-        if fired.index() == square {
-            sum += fired.recv(&from_squares)?;
-        } else {
-            report = fired.recv(&from_reports)?;
+        select! {
+            recv(from_squares) -> square => sum += square?,
+            recv(from_reports) -> text => report = text?,
         }
     }
     println!("{report} {sum}");

@@ -170,6 +170,16 @@ impl<'a> Select<'a> {
         self.run(|seat, cases, word| seat.select_of(cases, true, word))
     }
 
+    /// The select of the macro `select!` with a default after a timeout: returns `None` if no case fired in time.
+    #[doc(hidden)]
+    pub fn select_within(self, timeout: Duration) -> Result<Option<SelectedOperation>, Ended> {
+        match self.select_timeout(timeout) {
+            Ok(fired) => Ok(Some(fired)),
+            Err(SelectTimeoutError::Timeout) => Ok(None),
+            Err(SelectTimeoutError::Ended(ended)) => Err(ended),
+        }
+    }
+
     /// Makes this call of the cases.
     fn run(
         mut self,

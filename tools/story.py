@@ -118,6 +118,36 @@ def journals(work):
         yield f"random journal {seed}", (pathlib.Path(work) / f"journal_{seed}").read_text(), seed <= WINDOWED
 
 
+def with_clock(journal, draw):
+    """The journal of a hub with one process more, which is a clock, or nearly one."""
+    head, procs, *lines = journal.splitlines()
+    clock = int(procs.split()[1])
+    lines = [line for line in lines if not line.startswith(f"{clock} ")]
+    others = [*(f"{clock} cancel {pid}" for pid in range(clock)), f"0 cancel {clock}"]
+    for at in sorted(draw.sample(range(len(lines)), len(lines) // 4), reverse=True):
+        lines.insert(at, draw.choice([f"{clock} recv 0", f"{clock} select 3 r0", *draw.choices(others, k=3)]))
+    if draw.random() < 0.5:
+        lines.insert(0, f"{clock} recv 0")
+    if draw.random() < 0.5:
+        lines.append(f"{clock} {draw.choice(['exit', 'recv 1', 'make 0', 'close 1', 'select 0 r0 default', 'select 0 r0 r0'])}")
+    return "\n".join([head, f"procs {clock + 1}", *lines, ""])
+
+
+def clocks(program, work):
+    """Journals of hubs with a clock, and some that nearly have one."""
+    draw = random.Random(2)
+    have = 0
+    for name, journal, _ in journals(work):
+        if journal.startswith("chanhub journal 2") and "procs 64\n" not in journal:
+            journal = with_clock(journal, draw)
+            story = Story(journal)
+            have += story.clock >= 0
+            yield f"{name} with a clock", program.tells(journal, story, None)
+            coloured = 0, story.text(1, len(story.entries), True), b""
+            yield f"{name} with a clock, coloured", program.run(["story", "--color", "always"], journal.encode()) == coloured
+    yield f"some have a clock, not {have}", have > 20
+
+
 def texts(program, work):
     draw = random.Random(1)
     for name, journal, by_windows in journals(work):
@@ -246,7 +276,7 @@ def count(program, *parts):
 
 
 def main():
-    parts = worked, texts, colours, faulty_journals, devices, refused_allocations, longest_journals, most_entries
+    parts = worked, texts, clocks, colours, faulty_journals, devices, refused_allocations, longest_journals, most_entries
     return count(Program(sys.argv[1]), *parts)
 
 

@@ -19,7 +19,10 @@ HEADING = "   step  who asks what                  answer            waited     
 NO_COLOUR = "\x1b[0m"
 LONGEST = 5  # how many of the longest waits are told
 ASKS, ANSWER, WAITED, VALUE, ENDS = (HEADING.index(word) for word in ("who", "answer", "waited", "partner", "what else"))
-DOES = {"case": "frees", "cancelled": "cancels", "stalled": "stalls"}  # by the first word of the event that ends a call
+# what a step does to others, in the order in which it is told
+DOES = ["frees", "cancels", "times out", "wakes", "stalls"]
+ENDS_BY = {"case": "frees", "cancelled": "cancels", "stalled": "stalls"}  # by the first word of the event that ends a call
+NOBODY = -1  # the clock of a journal that has none
 
 
 class Entry:
@@ -70,6 +73,7 @@ class Story:
         self.waiting = {}  # the place of each process's call that waits, by arrival
         self.exits = []  # the places of the exits that were done
         hub = model.Hub(int(head.split()[2]), int(procs.split()[1]))
+        self.clock = clock_of(int(head.split()[2]), int(procs.split()[1]), lines)
         for place, entry in enumerate(self.entries):
             hub.step(entry.pid, entry.word, entry.asked)
             events, hub.events = hub.events, []
@@ -78,7 +82,7 @@ class Story:
 
     def take(self, by, events):
         """The first event answers the entry, and each other one ends a call that waits. The ports on which values moved."""
-        stalled, ports = [], []
+        stalled, ports = [], []  # the clock is not among those who are told to be stalled
         for number, event in enumerate(events):
             pid, words = event.split(" ", 1)
             place = self.waiting.pop(int(pid)) if number else by
@@ -88,7 +92,7 @@ class Story:
                 self.finish(place, by, words)
                 if moves(self.entries[place]):
                     ports.append(self.ports[fired(self.entries[place])[1] - 1])
-            if words == "stalled":
+            if words == "stalled" and not self.is_clock(place):
                 stalled.append(place)
         if stalled:
             self.entries[by].below = ("        stall: everyone who is left waits", *self.leavers(), *self.waiters(stalled))
@@ -98,7 +102,12 @@ class Story:
         entry = self.entries[place]
         entry.end, entry.until = words, by
         if place != by:
-            self.entries[by].ended.setdefault(DOES[words.split(" ")[0]], []).append(place)
+            does = ENDS_BY[words.split(" ")[0]]
+            if self.is_clock(place) and does != "frees":
+                does = "wakes"
+            elif self.is_clock(by) and does == "cancels":
+                does = "times out"
+            self.entries[by].ended.setdefault(does, []).append(place)
         if words.startswith("made"):
             self.ports.append(Port(place))
         elif words == "done" and entry.word == "exit":
@@ -107,6 +116,10 @@ class Story:
             self.ports[entry.asked - 1].closer = place
         elif moves(entry):
             self.move(place)
+
+    def is_clock(self, place):
+        """Whether the entry at this place is the clock's."""
+        return self.entries[place].pid == self.clock
 
     def move(self, place):
         """A value was put into a port, or taken from it: the first that was put is the first that is taken."""
@@ -150,16 +163,24 @@ class Story:
             return f"stays in port {port}"
         return f"{'to' if side == 's' else 'from'} P{self.entries[entry.partner].pid}, step {entry.partner + 1}"
 
+    def answer(self, place):
+        """What an entry was told in the end. The clock is woken, and what it cancels has timed out."""
+        entry = self.entries[place]
+        if entry.end in ("cancelled", "stalled") and self.is_clock(place):
+            return "woken"
+        return "timed out" if entry.end == "cancelled" and self.is_clock(entry.until) else answer(entry)
+
     def line(self, place):
         entry = self.entries[place]
         line = cell(f"{place + 1:7}", ASKS, "P" + entry.line)
-        line = cell(line, ANSWER, answer(entry))
+        line = cell(line, ANSWER, self.answer(place))
         if entry.end is None:
             line = cell(line, WAITED, f"{len(self.entries) - place - 1}, still")
         elif entry.until > place:
             line = cell(line, WAITED, f"{entry.until - place}, until {entry.until + 1}")
         line = cell(line, VALUE, self.value(entry))
-        for word in DOES.values():
+        line = cell(line, VALUE, "the clock" if self.is_clock(place) else "")
+        for word in DOES:
             if word in entry.ended:
                 line = cell(line, ENDS, " ".join([word, *(str(ended + 1) for ended in entry.ended[word])]))
         return line
@@ -173,13 +194,17 @@ class Story:
         return f"port {number} cap {maker.asked} {counts}{most} made by P{maker.pid} at step {port.maker + 1}{closed}"
 
     def waits(self):
-        """How many of the calls waited, and the lines of those that waited longest, the older of equal ones first."""
-        steps = {}
+        """How many of the calls waited, and the lines of those that waited longest, the older of equal ones first; but not the
+        clock's."""
+        steps, calls = {}, 0
         for place, entry in enumerate(self.entries):
+            if self.is_clock(place):
+                continue
+            calls += entry.word == "call"
             until = len(self.entries) - 1 if entry.end is None else entry.until
             if entry.end is None or until > place:
                 steps[place] = until - place
-        yield f"{len(steps)} of {sum(entry.word == 'call' for entry in self.entries)} calls waited, the longest first, five at most"
+        yield f"{len(steps)} of {calls} calls waited, the longest first, five at most"
         for place in sorted(steps, key=lambda place: (-steps[place], place))[:LONGEST]:
             yield self.line(place)
 
@@ -187,19 +212,35 @@ class Story:
         """The text of the steps from one to another, counted from 1; their lines in colours if these are asked for."""
         lines = [HEADING]
         for place in range(first - 1, last):
-            line, colour = self.line(place), colour_of(self.entries[place].end) if coloured else ""
+            colour = colour_of(self.entries[place].end, self.is_clock(place)) if coloured else ""
+            line = self.line(place)
             lines += [f"{colour}{line}{NO_COLOUR}" if colour else line, *self.entries[place].below]
         lines += [self.port_line(number) for number in range(1, len(self.ports) + 1)]
         lines += self.waits()
-        if self.waiting:
-            lines += ["in the end these wait", *self.leavers(), *self.waiters(self.waiting.values())]
+        waiting = [place for place in self.waiting.values() if not self.is_clock(place)]
+        if waiting:
+            lines += ["in the end these wait", *self.leavers(), *self.waiters(waiting)]
         else:
             lines.append("in the end no call waits")
         return "".join(line + "\n" for line in lines).encode()
 
 
-def colour_of(end):
-    """The escape sequence before the line of a step that ended so: yellow where it waits, red for trouble."""
+def clock_of(edition, procs, lines):
+    """The clock, which in edition 2 may be the last process. It receives on port 0, and else only cancels and exits. It makes the
+    first step, or cancels."""
+    own = [line.split(" ")[1:] for line in lines if int(line.split(" ")[0]) == procs - 1]
+    waits = [words for words in own if words == ["recv", "0"] or words[0] == "select" and words[2:] == ["r0"]]
+    cancels, exits = ([words for words in own if words[0] == word] for word in ("cancel", "exit"))
+    if edition == 1 or not waits or len(waits) + len(cancels) + len(exits) < len(own):
+        return NOBODY
+    return procs - 1 if cancels or lines[0].startswith(f"{procs - 1} ") else NOBODY
+
+
+def colour_of(end, is_clock):
+    """The escape sequence before the line of a step that ended so: yellow where it waits, red for trouble. The clock's waits have
+    none."""
+    if is_clock and end in (None, "stalled"):
+        return ""
     if end is None:
         return "\x1b[33m"
     return "\x1b[31m" if end == "stalled" or end.startswith("fault") or end.endswith(" closed") else ""

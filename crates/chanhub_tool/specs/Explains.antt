@@ -34,7 +34,7 @@ pub record IsPicture (w : Window) (given : JournalView) (text : List ℕ) : Type
 
 -- the bytes are these steps in that form
 abbrev pub IsIn : Form → Window → JournalView → List ℕ → Type 0
-IsIn (form.Text paint) w given text = text ≡ painted_text paint w given.entries (told given.head given.entries)
+IsIn (form.Text paint) w given text = text ≡ painted_text paint w given.head given.entries (told given.head given.entries)
 IsIn form.Picture w given text = IsPicture w given text
 IsIn form.Mermaid w given text = text ≡ mermaid_text w given.head.procs given.entries (told given.head given.entries)
 IsIn form.Trace w given text = text ≡ trace_text given.head.procs given.entries (told given.head given.entries)

@@ -14,7 +14,7 @@ no_steps = record { first = 0; end = 0 }
 
 -- the data, and the story without the lines of steps, between these texts
 abbrev pub in_frame : List ℕ → List ℕ → List ℕ → Head → List Entry → List Told → List ℕ
-in_frame before between after h es all = before ++ data_text h es all ++ between ++ story_text no_steps es all ++ after
+in_frame before between after h es all = before ++ data_text h es all ++ between ++ story_text no_steps h es all ++ after
 
 -- of a journal with this head and these entries, of which this is told
 abbrev pub page_text : Head → List Entry → List Told → List ℕ

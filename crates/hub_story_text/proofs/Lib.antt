@@ -11,4 +11,5 @@ pub mod Places
 pub mod Ranks
 pub mod Packs
 pub mod OwnEnds
+pub mod Clocks
 mod Picks

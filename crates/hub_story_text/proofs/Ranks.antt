@@ -1,7 +1,7 @@
 -- Waits that stand longest first, one by one.
 use Rattle.std.proofs.Common.{◌≡◌, ◌≤◌, ◌<◌, ◌+◌, ℕ, zero, suc, Bool, true, false, List, [], ◌∷◌, ◌++◌, length, take, drop}
 use Rattle.std.proofs.Common.{refl, ap, ◌∙◌, sym, arith, append_assoc, length-append, append-nil, add-one, get_or}
-use Rattle.std.specs.Prelude.{Some, cond, count_by, nat_lt, insert, slice_get}
+use Rattle.std.specs.Prelude.{Option, Some, cond, count_by, nat_lt, insert, slice_get}
 use Rattle.std.specs.Int.{from_bool}
 use Rattle.std.specs.List.{cons_option, fold}
 use Rattle.std.proofs.Math.Seq.{drop-cons}
@@ -9,12 +9,13 @@ use Rattle.std.proofs.lemmas.Bool.{lt-ltb}
 use Rattle.std.proofs.lemmas.List.{drop_all}
 use Rattle.std.proofs.lemmas.List.Sums.{count_by_more_no, count_by_more_yes, fold-append}
 use Rattle.std.proofs.lemmas.Option.{get_or_from_slice_get}
+use Rattle.hub_base.specs.declared.value.Pid.{Pid}
+use Rattle.hub_base.specs.Entry.{Entry}
 use Rattle.hub_story.specs.declared.told.Told.{Told}
-use Rattle.hub_story.specs.Told.{end_of}
 use Rattle.hub_story_text.specs.declared.waits.TheConstants.{MOST_LONGEST}
 use Rattle.hub_story_text.specs.declared.waits.Wait.{Wait}
 use Rattle.hub_story_text.specs.declared.waits.Waits.{Waits}
-use Rattle.hub_story_text.specs.Waits.{AreWaits, longest, wait_of, waits_below, with_wait}
+use Rattle.hub_story_text.specs.Waits.{AreWaits, longest, told_wait, waits_below, with_wait}
 use Rattle.hub_story_text.proofs.Levels.{not-below}
 use Rattle.hub_story_text.proofs.StepLines.{taken-next}
 
@@ -79,9 +80,9 @@ wait-more ws w old new so count ranked = record {
 pub no-wait-more : (ws : List Wait) (new : Waits) → AreWaits ws new → AreWaits (ws ++ []) new
 no-wait-more ws new so = rw (append-nil ws) so
 
-pub waits-next : (count n : ℕ) (all : List Told) →
-    waits_below count all (n + 1) ≡ waits_below count all n ++ cons_option (wait_of count n (end_of all n)) []
-waits-next count n all = ap (waits_below count all) (add-one n)
+pub waits-next : (clock : Option Pid) (es : List Entry) (n : ℕ) (all : List Told) →
+    waits_below clock es all (n + 1) ≡ waits_below clock es all n ++ cons_option (told_wait clock es all n) []
+waits-next clock es n all = ap (waits_below clock es all) (add-one n)
 
 -- ---- how many entries are such
 pub count-next : {A : Type 0} (p : A → Bool) (xs : List A) (i : ℕ) (x : A) (b : Bool) (count : ℕ) → i < length xs → slice_get xs i ≡ Some x → b ≡ p x →

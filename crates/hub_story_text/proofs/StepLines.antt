@@ -18,7 +18,7 @@ use Rattle.hub_base.specs.Value.{value_field}
 use Rattle.hub_story.specs.declared.told.Told.{Told}
 use Rattle.hub_story_text.specs.declared.last_moves.Mover.{Mover}
 use Rattle.hub_story_text.specs.declared.ends.Ending.{Ending}
-use Rattle.hub_story_text.specs.declared.ends.Ending.TheVariants.{Frees, Cancels, Stalls}
+use Rattle.hub_story_text.specs.declared.ends.Ending.TheVariants.{Frees, Cancels, TimesOut, Wakes, Stalls}
 use Rattle.hub_story_text.specs.EndsText.{ending_word, ends_words, step_number, with_ended}
 use Rattle.hub_story_text.specs.PortText.{made_line, port_line}
 use Rattle.hub_story_text.specs.WaiterText.{left_words, waiter_words, waiters_words}
@@ -35,6 +35,8 @@ ended-more : (ending : Ending) (ts : List Told) (t : Told) → with_ended ending
 ended-more ending [] t = ap (λ bs. ending_word ending ++ bs) (sym (append-nil (step_number t)))
 ended-more Frees (x ∷ xs) t = step-more (ending_word Frees) (x ∷ xs) t
 ended-more Cancels (x ∷ xs) t = step-more (ending_word Cancels) (x ∷ xs) t
+ended-more TimesOut (x ∷ xs) t = step-more (ending_word TimesOut) (x ∷ xs) t
+ended-more Wakes (x ∷ xs) t = step-more (ending_word Wakes) (x ∷ xs) t
 ended-more Stalls (x ∷ xs) t = step-more (ending_word Stalls) (x ∷ xs) t
 
 -- one item more

@@ -1,9 +1,10 @@
 -- The text of the steps, one by one.
-use Rattle.std.proofs.Common.{◌≡◌, ◌<◌, ◌+◌, ℕ, true, false, List, [], ◌∷◌}
+use Rattle.std.proofs.Common.{◌≡◌, ◌<◌, ◌+◌, ℕ, Bool, true, false, List, [], ◌∷◌}
 use Rattle.std.proofs.Common.{◌++◌, length, drop, filter, refl, ap, ◌∙◌, sym, append_assoc, get_or, codes}
 use Rattle.std.proofs.Common.{Option, Some, if◌then◌else◌, add-one}
 use Rattle.std.specs.List.{flat_map}
 use Rattle.std.proofs.Math.Seq.{drop-cons}
+use Rattle.hub_base.specs.declared.value.Pid.{Pid}
 use Rattle.hub_base.specs.declared.value.Port.{Port}
 use Rattle.hub_base.specs.declared.case.Case.{Case}
 use Rattle.hub_base.specs.declared.case.Case.TheVariants.{Send, Recv}
@@ -15,6 +16,7 @@ use Rattle.hub_story.specs.Passing.{cases_at}
 use Rattle.hub_story_text.specs.declared.last_moves.Mover.{Mover}
 use Rattle.hub_story_text.specs.declared.last_moves.LastMoves.{LastMoves}
 use Rattle.hub_story.specs.declared.window.Window.{Window}
+use Rattle.hub_story_text.specs.Clock.{to_others}
 use Rattle.hub_story_text.specs.LastMoves.{AreLast, last_sender, last_receiver, mover_at}
 use Rattle.hub_story_text.specs.Leavers.{leavers}
 use Rattle.hub_story_text.specs.StoryText.{came_by, stall_heading, steps_text, step_text, who_waits}
@@ -45,54 +47,63 @@ same-waiters nobody heading es s s' r r' hs hr left (t ∷ ts) =
     (same-flat (case_words s r) (case_words s' r') (same-case s s' r r' hs hr) (cases_at es t.asked))) (t ∷ ts))
 
 -- what the tables tell
-pub waiters-told : (nobody heading : List ℕ) (es : List Entry) (until : List Told) (moves : LastMoves) → AreLast es until moves → (ts : List Told) →
-    waiters_words nobody heading es (mover_at moves.sent.items) (mover_at moves.received.items) moves.left.items ts ≡ who_waits nobody heading es until ts
-waiters-told nobody heading es until moves so ts =
-    ap (λ left. waiters_words nobody heading es (mover_at moves.sent.items) (mover_at moves.received.items) left ts) so.left
+pub waiters-told : (nobody heading : List ℕ) (clock : Option Pid) (es : List Entry) (until : List Told) (moves : LastMoves) → AreLast es until moves →
+    (ts : List Told) →
+    waiters_words nobody heading es (mover_at moves.sent.items) (mover_at moves.received.items) moves.left.items (to_others clock ts)
+    ≡ who_waits nobody heading clock es until ts
+waiters-told nobody heading clock es until moves so ts =
+    ap (λ left. waiters_words nobody heading es (mover_at moves.sent.items) (mover_at moves.received.items) left (to_others clock ts)) so.left
     ∙ same-waiters nobody heading es (mover_at moves.sent.items) (last_sender es until) (mover_at moves.received.items) (last_receiver es until)
-    so.sent so.received (leavers es until) ts
+    so.sent so.received (leavers es until) (to_others clock ts)
 
 -- ---- one step more
-step-first : (paint : Paint) (w : Window) (es : List Entry) (all : List Told) (place : ℕ) (rest : List Entry) (d : Entry) → place < length rest →
-    steps_text paint w es all place (drop place rest)
-    ≡ (if has w place then step_text paint es all place (get_or rest place d) else []) ++ steps_text paint w es all (place + 1) (drop (place + 1) rest)
-step-first paint w es all place rest d below =
-    ap (steps_text paint w es all place) (drop-cons rest place d below)
-    ∙ ap (λ k. (if has w place then step_text paint es all place (get_or rest place d) else []) ++ steps_text paint w es all (place + 1) (drop k rest))
+-- what is shown of a step where this says so
+shown : Bool → Paint → Option Pid → List Entry → List Told → ℕ → Entry → List ℕ
+shown b paint clock es all place e = if b then step_text paint clock es all place e else []
+
+step-first : (paint : Paint) (w : Window) (clock : Option Pid) (es : List Entry) (all : List Told) (place : ℕ) (rest : List Entry) (d : Entry) →
+    place < length rest → steps_text paint w clock es all place (drop place rest)
+    ≡ shown (has w place) paint clock es all place (get_or rest place d) ++ steps_text paint w clock es all (place + 1) (drop (place + 1) rest)
+step-first paint w clock es all place rest d below =
+    ap (steps_text paint w clock es all place) (drop-cons rest place d below)
+    ∙ ap (λ k. shown (has w place) paint clock es all place (get_or rest place d) ++ steps_text paint w clock es all (place + 1) (drop k rest))
     (sym (add-one place))
 
-pub step-shown : (paint : Paint) (w : Window) (es : List Entry) (all : List Told) (place : ℕ) (d : Entry) (was now text : List ℕ) → place < length es →
-    has w place ≡ true → was ++ steps_text paint w es all place (drop place es) ≡ text → now ≡ was ++ step_text paint es all place (get_or es place d) →
-    now ++ steps_text paint w es all (place + 1) (drop (place + 1) es) ≡ text
-step-shown paint w es all place d was now text below shown so is =
-    ap (λ l. l ++ steps_text paint w es all (place + 1) (drop (place + 1) es)) is
-    ∙ append_assoc was (step_text paint es all place (get_or es place d)) (steps_text paint w es all (place + 1) (drop (place + 1) es))
-    ∙ ap (λ l. was ++ l)
-    (ap (λ b. (if b then step_text paint es all place (get_or es place d) else []) ++ steps_text paint w es all (place + 1) (drop (place + 1) es)) (sym shown)
-    ∙ sym (step-first paint w es all place es d below)) ∙ so
-
-pub step-hidden : (paint : Paint) (w : Window) (es : List Entry) (all : List Told) (place : ℕ) (d : Entry) (was text : List ℕ) → place < length es →
-    has w place ≡ false → was ++ steps_text paint w es all place (drop place es) ≡ text →
-    was ++ steps_text paint w es all (place + 1) (drop (place + 1) es) ≡ text
-step-hidden paint w es all place d was text below hidden so =
+step-next : (b : Bool) (paint : Paint) (w : Window) (clock : Option Pid) (es : List Entry) (all : List Told) (place : ℕ) (d : Entry) (was text : List ℕ) →
+    place < length es → has w place ≡ b → was ++ steps_text paint w clock es all place (drop place es) ≡ text →
+    was ++ (shown b paint clock es all place (get_or es place d) ++ steps_text paint w clock es all (place + 1) (drop (place + 1) es)) ≡ text
+step-next b paint w clock es all place d was text below so is =
     ap (λ l. was ++ l)
-    (ap (λ b. (if b then step_text paint es all place (get_or es place d) else []) ++ steps_text paint w es all (place + 1) (drop (place + 1) es)) (sym hidden)
-    ∙ sym (step-first paint w es all place es d below)) ∙ so
+    (ap (λ b. shown b paint clock es all place (get_or es place d) ++ steps_text paint w clock es all (place + 1) (drop (place + 1) es)) (sym so)
+    ∙ sym (step-first paint w clock es all place es d below)) ∙ is
+
+pub step-shown : (paint : Paint) (w : Window) (clock : Option Pid) (es : List Entry) (all : List Told) (place : ℕ) (d : Entry) (was now text : List ℕ) →
+    place < length es → has w place ≡ true → was ++ steps_text paint w clock es all place (drop place es) ≡ text →
+    now ≡ was ++ step_text paint clock es all place (get_or es place d) → now ++ steps_text paint w clock es all (place + 1) (drop (place + 1) es) ≡ text
+step-shown paint w clock es all place d was now text below so is step =
+    ap (λ l. l ++ steps_text paint w clock es all (place + 1) (drop (place + 1) es)) step
+    ∙ append_assoc was (step_text paint clock es all place (get_or es place d)) (steps_text paint w clock es all (place + 1) (drop (place + 1) es))
+    ∙ step-next true paint w clock es all place d was text below so is
+
+pub step-hidden : (paint : Paint) (w : Window) (clock : Option Pid) (es : List Entry) (all : List Told) (place : ℕ) (d : Entry) (was text : List ℕ) →
+    place < length es → has w place ≡ false → was ++ steps_text paint w clock es all place (drop place es) ≡ text →
+    was ++ steps_text paint w clock es all (place + 1) (drop (place + 1) es) ≡ text
+step-hidden paint w clock es all place d was text below so is = step-next false paint w clock es all place d was text below so is
 
 -- ---- the text of one step, by what is looked up
 pub inside : {A : Type 0} {x y : A} → Some x ≡ Some y → x ≡ y
 inside h = cc
 
-pub step-is : (paint : Paint) (es : List Entry) (all : List Told) (place : ℕ) (e : Entry) (came : List Told) (moves : LastMoves) → came ≡ came_by place all →
-    AreLast es (told_by (place + 1) all) moves →
-    painted_line paint es all place e came
+pub step-is : (paint : Paint) (clock : Option Pid) (es : List Entry) (all : List Told) (place : ℕ) (e : Entry) (came : List Told) (moves : LastMoves) →
+    came ≡ came_by place all → AreLast es (told_by (place + 1) all) moves →
+    painted_line paint clock es all place e came
     ++ waiters_words [] stall_heading es (mover_at moves.sent.items) (mover_at moves.received.items) moves.left.items
-    (filter (λ t. is_stalled t.event.what) came)
-    ≡ step_text paint es all place e
-step-is paint es all place e came moves same last =
-    ap (λ l. painted_line paint es all place e l
+    (to_others clock (filter (λ t. is_stalled t.event.what) came))
+    ≡ step_text paint clock es all place e
+step-is paint clock es all place e came moves same last =
+    ap (λ l. painted_line paint clock es all place e l
     ++ waiters_words [] stall_heading es (mover_at moves.sent.items) (mover_at moves.received.items) moves.left.items
-    (filter (λ t. is_stalled t.event.what) l)) same
-    ∙ ap (λ l. painted_line paint es all place e (came_by place all) ++ l)
-    (waiters-told [] stall_heading es (told_by (place + 1) all) moves last (filter (λ t. is_stalled t.event.what) (came_by place all))
-    ∙ ap (who_waits [] stall_heading es (told_by (place + 1) all)) (stalled-came place all))
+    (to_others clock (filter (λ t. is_stalled t.event.what) l))) same
+    ∙ ap (λ l. painted_line paint clock es all place e (came_by place all) ++ l)
+    (waiters-told [] stall_heading clock es (told_by (place + 1) all) moves last (filter (λ t. is_stalled t.event.what) (came_by place all))
+    ∙ ap (who_waits [] stall_heading clock es (told_by (place + 1) all)) (stalled-came place all))

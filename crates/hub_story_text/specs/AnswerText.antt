@@ -1,4 +1,5 @@
--- What a step was told, in the words of events; a call of several cases names the one that fired.
+-- What a step was told, in the words of events; a call of several cases names the one that fired. What the clock did has words of
+-- its own.
 use Rattle.std.specs.Prelude.{ℕ, List, [], ◌∷◌, ◌++◌, codes, decimal, slice_get}
 use Rattle.std.specs.Option.{option_map_or}
 use Rattle.hub_base.specs.declared.case.Case.{Case}
@@ -11,6 +12,8 @@ use Rattle.hub_base.specs.declared.fault.Fault.{Fault}
 use Rattle.hub_base.specs.declared.fault.Fault.TheVariants as fault
 use Rattle.hub_base.specs.Value.{value_field}
 use Rattle.hub_base.specs.Faults.{fault_number}
+use Rattle.hub_story_text.specs.declared.clock.Part.{Part}
+use Rattle.hub_story_text.specs.declared.clock.Part.TheVariants.{OwnCall, OwnStep}
 
 -- a case without its value: `s1` or `r1`
 abbrev pub case_name : Case → List ℕ
@@ -38,6 +41,13 @@ answer_words cases what.Parked = codes "waits"
 answer_words cases what.Stalled = codes "stalled"
 answer_words cases (what.Fault f) = codes "fault " ++ decimal (fault_number f)
 answer_words cases what.Cancelled = codes "cancelled"
+
+-- so of a step that has ended. The clock, while it waits, is only woken. A call that the clock cancelled timed out
+abbrev pub ended_words : Part → List Case → What → List ℕ
+ended_words OwnCall cases what.Cancelled = codes "woken"
+ended_words OwnCall cases what.Stalled = codes "woken"
+ended_words OwnStep cases what.Cancelled = codes "timed out"
+ended_words part cases w = answer_words cases w
 
 -- why a step had no effect, in words
 abbrev pub fault_words : Fault → List ℕ

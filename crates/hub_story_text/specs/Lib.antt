@@ -1,3 +1,4 @@
+pub mod Clock
 pub mod Cells
 pub mod Writing
 pub mod AnswerText

@@ -1,9 +1,10 @@
 -- The line of a step: its number, who asks what, what it was told in the end, how long it waited, where its value went or
--- came from, and what it did to others that waited. A step is printed by its number, counted from 1.
+-- came from, or that it is the clock's, and what it did to others that waited. A step is printed by its number, counted from 1.
 use Rattle.std.specs.Prelude.{ℕ, ◌+◌, ◌-◌, nat_lt, List, [], ◌∷◌, ◌++◌, codes, decimal, length, slice_get}
 use Rattle.std.specs.Prelude.{Option, None, Some, if◌then◌else◌}
 use Rattle.std.specs.List.{join_with_byte}
 use Rattle.std.specs.Option.{option_map_or}
+use Rattle.hub_base.specs.declared.value.Pid.{Pid}
 use Rattle.hub_base.specs.declared.value.Port.{Port}
 use Rattle.hub_base.specs.declared.case.Case.{Case}
 use Rattle.hub_base.specs.declared.case.Case.TheVariants.{Send, Recv}
@@ -17,10 +18,10 @@ use Rattle.hub_base.specs.Values.{cases_or}
 use Rattle.hub_story.specs.declared.told.Told.{Told}
 use Rattle.hub_story.specs.Told.{end_of}
 use Rattle.hub_story_text.specs.declared.cells.TheConstants.{STEP_WIDTH, ASKS, ANSWER, WAITED, VALUE}
-use Rattle.hub_story_text.specs.declared.ends.Ending.TheVariants.{Frees, Cancels, Stalls}
 use Rattle.hub_story_text.specs.Cells.{right, with_cell}
-use Rattle.hub_story_text.specs.AnswerText.{answer_words, fault_words}
-use Rattle.hub_story_text.specs.EndsText.{with_ends}
+use Rattle.hub_story_text.specs.AnswerText.{ended_words, fault_words}
+use Rattle.hub_story_text.specs.Clock.{is_clock, part_of}
+use Rattle.hub_story_text.specs.EndsText.{with_all_ends}
 use Rattle.hub_story_text.specs.Partners.{partner_of}
 
 -- the entry's line in the journal, without its newline
@@ -60,26 +61,32 @@ value_words es cases partner other = []
 
 -- behind who asks what: what it was told in the end, how long it waited, and what is known of its value, or what is wrong; a
 -- call that waits has waited until the journal's last step
-abbrev pub with_end : List Entry → ℕ → Entry → Option ℕ → List ℕ → Option Told → List ℕ
-with_end es place e partner before None =
+abbrev pub with_end : Option Pid → List Entry → ℕ → Entry → Option ℕ → List ℕ → Option Told → List ℕ
+with_end clock es place e partner before None =
     with_cell WAITED (with_cell ANSWER before (codes "waits")) (decimal (length es - (place + 1)) ++ codes ", still")
-with_end es place e partner before (Some t) =
+with_end clock es place e partner before (Some t) =
     with_cell VALUE
-    (with_cell WAITED (with_cell ANSWER before (answer_words (cases_or e.step []) t.event.what)) (waited_words place t))
+    (with_cell WAITED (with_cell ANSWER before (ended_words (part_of clock es t) (cases_or e.step []) t.event.what)) (waited_words place t))
     (value_words es (cases_or e.step []) partner t.event.what)
+
+-- that the step is the clock's
+abbrev pub clock_words : Option Pid → Entry → List ℕ
+clock_words clock e = if is_clock clock e.pid then codes "the clock" else []
+
+abbrev pub with_clock : Option Pid → Entry → List ℕ → List ℕ
+with_clock clock e line = with_cell VALUE line (clock_words clock e)
 
 -- the line of the entry at this place, by how it ended, by the other entry of its value's passage, and by what came by its step;
 -- without the newline
-abbrev pub cells : List Entry → ℕ → Entry → Option Told → Option ℕ → List Told → List ℕ
-cells es place e end partner came =
-    with_ends Stalls place came
-    (with_ends Cancels place came
-    (with_ends Frees place came (with_end es place e partner (with_cell ASKS (right STEP_WIDTH (place + 1)) (asks e)) end)))
+abbrev pub cells : Option Pid → List Entry → ℕ → Entry → Option Told → Option ℕ → List Told → List ℕ
+cells clock es place e end partner came =
+    with_all_ends clock es place came
+    (with_clock clock e (with_end clock es place e partner (with_cell ASKS (right STEP_WIDTH (place + 1)) (asks e)) end))
 
 -- so by all that is told
-abbrev pub told_cells : List Entry → List Told → ℕ → Entry → List Told → List ℕ
-told_cells es all place e came = cells es place e (end_of all place) (partner_of es all place) came
+abbrev pub told_cells : Option Pid → List Entry → List Told → ℕ → Entry → List Told → List ℕ
+told_cells clock es all place e came = cells clock es place e (end_of all place) (partner_of es all place) came
 
 -- the whole line
-abbrev pub told_line : List Entry → List Told → ℕ → Entry → List Told → List ℕ
-told_line es all place e came = told_cells es all place e came ++ codes "\n"
+abbrev pub told_line : Option Pid → List Entry → List Told → ℕ → Entry → List Told → List ℕ
+told_line clock es all place e came = told_cells clock es all place e came ++ codes "\n"

@@ -2,8 +2,9 @@
 
 ghost use Rattle.std.specs.Prelude.{◌≡◌, ◌++◌, codes, decimal, OnOk};
 ghost use Rattle.hub_base.specs.Value.{value_field};
-ghost use Rattle.hub_story_text.specs.AnswerText.{answer_words, case_name, fault_words, fired_name, outcome_words};
+ghost use Rattle.hub_story_text.specs.AnswerText.{answer_words, case_name, ended_words, fault_words, fired_name, outcome_words};
 
+use crate::clock::Part;
 use crate::numbers::{put_number, put_value};
 use hub_base::{Case, Fault, NoMemory, Outcome, Value, What};
 use std::alloc::AllocError;
@@ -88,6 +89,22 @@ pub(crate) fn put_answer(out: &mut Vec<u8>, cases: &[Case], what: What) -> Resul
         What::Stalled => put_words(out, b"stalled"),
         What::Fault(fault) => put_counted(out, b"fault ", fault.number().into()),
         What::Cancelled => put_words(out, b"cancelled"),
+    }
+}
+
+/// Appends what a step of these cases was told that has ended.
+pub(crate) fn put_ended(
+    out: &mut Vec<u8>,
+    part: Part,
+    cases: &[Case],
+    what: What,
+) -> Result<(), NoMemory>
+    ensures { OnOk result (out.new.items ≡ out.old.items ++ ended_words part cases.now what) }
+{
+    match (part, what) {
+        (Part::OwnCall, What::Cancelled | What::Stalled) => put_words(out, b"woken"),
+        (Part::OwnStep, What::Cancelled) => put_words(out, b"timed out"),
+        _ => put_answer(out, cases, what),
     }
 }
 

@@ -7,8 +7,10 @@ ghost use Rattle.hub_story_text.specs.EndsText.{ending_word, ends_other, ends_so
 ghost use Rattle.hub_story_text.specs.Writing.{LineBecomes};
 
 use crate::cells::{ENDS, close_cell, open_cell};
+use crate::clock::{Part, part_of};
 use crate::numbers::{number_of, put_number};
-use hub_base::What;
+use hub_base::{Pid, What};
+use hub_core::ShortEntries;
 use hub_story::Told;
 use std::alloc::AllocError;
 
@@ -19,27 +21,39 @@ pub(crate) enum Ending {
     Frees,
     /// It is cancelled.
     Cancels,
+    /// The clock cancels it.
+    TimesOut,
+    /// It is the clock's, which waits no longer.
+    Wakes,
     /// Everyone who is left waits.
     Stalls,
 }
 
 /// Whether an event ends a call in this way.
-fn ends_so(ending: Ending, what: What) -> bool
-    ensures { result ≡ ends_so ending what }
+fn ends_so(ending: Ending, part: Part, what: What) -> bool
+    ensures { result ≡ ends_so ending part what }
 {
-    match (ending, what) {
-        (Ending::Frees, What::Fired { .. }) => true,
-        (Ending::Cancels, What::Cancelled) => true,
-        (Ending::Stalls, What::Stalled) => true,
+    match (ending, part, what) {
+        (Ending::Frees, _, What::Fired { .. }) => true,
+        (Ending::Cancels, Part::NoPart, What::Cancelled) => true,
+        (Ending::TimesOut, Part::OwnStep, What::Cancelled) => true,
+        (Ending::Wakes, Part::OwnCall, What::Cancelled | What::Stalled) => true,
+        (Ending::Stalls, Part::OwnStep | Part::NoPart, What::Stalled) => true,
         _ => false,
     }
 }
 
 /// Whether it so ended a step other than the one at this place.
-fn ends_other(ending: Ending, place: u32, told: &Told) -> bool
-    ensures { result ≡ ends_other ending place told.now }
+fn ends_other(
+    clock: Option<Pid>,
+    entries: &ShortEntries,
+    ending: Ending,
+    place: u32,
+    told: &Told,
+) -> bool
+    ensures { result ≡ ends_other clock entries.now ending place told.now }
 {
-    ends_so(ending, told.event.what) && told.asked != place
+    ends_so(ending, part_of(clock, entries, told), told.event.what) && told.asked != place
 }
 
 /// The word for it.
@@ -49,6 +63,8 @@ fn ending_word(ending: Ending) -> &'static [u8]
     match ending {
         Ending::Frees => b"frees",
         Ending::Cancels => b"cancels",
+        Ending::TimesOut => b"times out",
+        Ending::Wakes => b"wakes",
         Ending::Stalls => b"stalls",
     }
 }
@@ -65,12 +81,20 @@ fn put_ended(out: &mut Vec<u8>, begin: usize, ending: Ending, told: &Told) -> Re
 }
 
 /// Appends which other steps so ended by the step at this place.
-fn put_ends(out: &mut Vec<u8>, ending: Ending, place: u32, came: &[Told]) -> Result<(), AllocError>
-    ensures { OnOk result (out.new.items ≡ out.old.items ++ ends_words ending (filter (ends_other ending place) came.now)) }
+fn put_ends(
+    out: &mut Vec<u8>,
+    clock: Option<Pid>,
+    entries: &ShortEntries,
+    ending: Ending,
+    place: u32,
+    came: &[Told],
+) -> Result<(), AllocError>
+    ensures { OnOk result (
+        out.new.items ≡ out.old.items ++ ends_words ending (filter (ends_other clock entries.now ending place) came.now)) }
 {
     let begin = out.len();
     for told in came {
-        if ends_other(ending, place, told) {
+        if ends_other(clock, entries, ending, place, told) {
             put_ended(out, begin, ending, told)?;
         }
     }
@@ -81,15 +105,17 @@ fn put_ends(out: &mut Vec<u8>, ending: Ending, place: u32, came: &[Told]) -> Res
 fn ends_cell(
     out: &mut Vec<u8>,
     start: usize,
+    clock: Option<Pid>,
+    entries: &ShortEntries,
     ending: Ending,
     place: u32,
     came: &[Told],
 ) -> Result<(), AllocError>
     ensures { OnOk result (
-        LineBecomes start out.old.items out.new.items (λ line. with_ends ending place came.now line)) }
+        LineBecomes start out.old.items out.new.items (λ line. with_ends clock entries.now ending place came.now line)) }
 {
     let cell = open_cell(out, start, ENDS)?;
-    put_ends(out, ending, place, came)?;
+    put_ends(out, clock, entries, ending, place, came)?;
     close_cell(out, cell);
     Ok(())
 }
@@ -110,17 +136,21 @@ fn are_own(place: u32, came: &[Told]) -> bool
 pub(crate) fn ends_cells(
     out: &mut Vec<u8>,
     start: usize,
+    clock: Option<Pid>,
+    entries: &ShortEntries,
     place: u32,
     came: &[Told],
 ) -> Result<(), AllocError>
     ensures { OnOk result (
-        LineBecomes start out.old.items out.new.items (λ line. with_all_ends place came.now line)) }
+        LineBecomes start out.old.items out.new.items (λ line. with_all_ends clock entries.now place came.now line)) }
 {
     if are_own(place, came) {
         return Ok(());
     }
-    ends_cell(out, start, Ending::Frees, place, came)?;
-    ends_cell(out, start, Ending::Cancels, place, came)?;
-    ends_cell(out, start, Ending::Stalls, place, came)?;
+    ends_cell(out, start, clock, entries, Ending::Frees, place, came)?;
+    ends_cell(out, start, clock, entries, Ending::Cancels, place, came)?;
+    ends_cell(out, start, clock, entries, Ending::TimesOut, place, came)?;
+    ends_cell(out, start, clock, entries, Ending::Wakes, place, came)?;
+    ends_cell(out, start, clock, entries, Ending::Stalls, place, came)?;
     Ok(())
 }

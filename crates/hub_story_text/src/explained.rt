@@ -2,24 +2,28 @@
 
 ghost use Rattle.std.specs.Prelude.{◌≡◌, ◌<◌, ◌++◌, length, slice_get, OnOk, Some};
 ghost use Rattle.hub_story.specs.Told.{end_of};
+ghost use Rattle.hub_story_text.specs.Clock.{is_clock};
 ghost use Rattle.hub_story_text.specs.Explained.{IsExplained, entries_of, told_of};
 ghost use Rattle.hub_story_text.specs.LineText.{told_cells, told_line};
 ghost use Rattle.hub_story_text.specs.Paint.{coloured_line, painted_line, shown_colour};
 ghost use Rattle.hub_story_text.specs.Partners.{partner_of};
 
+use crate::clock::is_clock;
 use crate::lines::put_cells;
 use crate::paint::{Colour, NO_COLOUR, Paint, colour_of};
-use hub_base::{EntryRef, NoMemory};
+use hub_base::{EntryRef, NoMemory, Pid};
 use hub_core::ShortJournal;
 use hub_story::{ShortStory, Told};
 
-/// A journal, its story, and for each entry the other one of the passage in which it stands.
+/// A journal, its story and its clock, and for each entry the other one of the passage in which it stands.
 #[derive(Clone, Copy)]
 pub(crate) struct Explained<'a> {
     /// The journal.
     pub(crate) journal: &'a ShortJournal,
     /// Its story.
     pub(crate) story: &'a ShortStory,
+    /// Its clock, if it has one.
+    pub(crate) clock: Option<Pid>,
     /// The other entries.
     pub(crate) partners: &'a [Option<u32>],
     /// How the lines of steps are shown.
@@ -65,12 +69,14 @@ fn put_told_cells(
     requires explained { IsExplained explained.now }
     requires within { place < length (entries_of explained.now) }
     ensures { OnOk result (out.new.items ≡
-        out.old.items ++ told_cells (entries_of explained.now) (told_of explained.now) place entry.now came.now) }
+        out.old.items
+        ++ told_cells explained.now.clock (entries_of explained.now) (told_of explained.now) place entry.now came.now) }
 {
     let partner = explained.partner(place as usize);
     let end = explained.end(place as usize);
     put_cells(
         out,
+        explained.clock,
         explained.journal.entries(),
         place,
         entry,
@@ -91,7 +97,8 @@ pub(crate) fn put_told_line(
     requires explained { IsExplained explained.now }
     requires within { place < length (entries_of explained.now) }
     ensures { OnOk result (out.new.items ≡
-        out.old.items ++ told_line (entries_of explained.now) (told_of explained.now) place entry.now came.now) }
+        out.old.items
+        ++ told_line explained.now.clock (entries_of explained.now) (told_of explained.now) place entry.now came.now) }
 {
     put_told_cells(out, explained, place, entry, came)?;
     out.extend_from_slice(b"\n")?;
@@ -110,7 +117,8 @@ fn put_coloured_line(
     requires explained { IsExplained explained.now }
     requires within { place < length (entries_of explained.now) }
     ensures { OnOk result (out.new.items ≡ out.old.items
-        ++ coloured_line (Some colour) (told_cells (entries_of explained.now) (told_of explained.now) place entry.now came.now)) }
+        ++ coloured_line (Some colour)
+        (told_cells explained.now.clock (entries_of explained.now) (told_of explained.now) place entry.now came.now)) }
 {
     out.extend_from_slice(colour.text())?;
     put_told_cells(out, explained, place, entry, came)?;
@@ -118,15 +126,19 @@ fn put_coloured_line(
     Ok(())
 }
 
-/// The colour in which the line of the entry at this place is shown, if any.
-fn shown_colour(explained: &Explained, place: u32) -> Option<Colour>
+/// The colour in which the line of this process's entry at this place is shown, if any.
+fn shown_colour(explained: &Explained, place: u32, pid: Pid) -> Option<Colour>
     requires explained { IsExplained explained.now }
     requires within { place < length (entries_of explained.now) }
-    ensures { result ≡ shown_colour explained.now.paint (end_of (told_of explained.now) place) }
+    ensures { result ≡
+        shown_colour explained.now.paint (is_clock explained.now.clock pid) (end_of (told_of explained.now) place) }
 {
     match explained.paint {
         Paint::Plain => None,
-        Paint::Colours => colour_of(explained.end(place as usize)),
+        Paint::Colours => colour_of(
+            is_clock(explained.clock, pid),
+            explained.end(place as usize),
+        ),
     }
 }
 
@@ -141,9 +153,10 @@ pub(crate) fn put_painted_line(
     requires explained { IsExplained explained.now }
     requires within { place < length (entries_of explained.now) }
     ensures { OnOk result (out.new.items ≡ out.old.items
-        ++ painted_line explained.now.paint (entries_of explained.now) (told_of explained.now) place entry.now came.now) }
+        ++ painted_line explained.now.paint explained.now.clock (entries_of explained.now) (told_of explained.now)
+        place entry.now came.now) }
 {
-    match shown_colour(explained, place) {
+    match shown_colour(explained, place, entry.pid) {
         Some(colour) => put_coloured_line(out, colour, explained, place, entry, came),
         None => put_told_line(out, explained, place, entry, came),
     }

@@ -5,6 +5,7 @@
 mod answers;
 mod block;
 mod cells;
+mod clock;
 mod closers;
 mod ends;
 mod explained;

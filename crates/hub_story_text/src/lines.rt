@@ -1,17 +1,18 @@
 //! The line of a step.
 
 ghost use Rattle.std.specs.Prelude.{◌≡◌, ◌+◌, ◌-◌, ◌++◌, codes, decimal, OnOk};
-ghost use Rattle.hub_story_text.specs.AnswerText.{answer_words};
+ghost use Rattle.hub_story_text.specs.AnswerText.{answer_words, ended_words};
 ghost use Rattle.hub_story_text.specs.Cells.{with_cell};
 ghost use Rattle.hub_story_text.specs.Writing.{LineBecomes};
-ghost use Rattle.hub_story_text.specs.LineText.{asks, cells, got_words, moved_words, sent_words};
-ghost use Rattle.hub_story_text.specs.LineText.{step_words, value_words, waited_words, with_end};
+ghost use Rattle.hub_story_text.specs.LineText.{asks, cells, clock_words, got_words, moved_words, sent_words};
+ghost use Rattle.hub_story_text.specs.LineText.{step_words, value_words, waited_words, with_clock, with_end};
 
-use crate::answers::{fault_words, put_answer};
+use crate::answers::{fault_words, put_answer, put_ended};
 use crate::cells::{ANSWER, ASKS, VALUE, WAITED, close_cell, open_cell, put_right};
+use crate::clock::{Part, is_clock, part_of};
 use crate::ends::ends_cells;
 use crate::numbers::{number_of, put_number};
-use hub_base::{Case, Edition, EntryRef, NoMemory, Outcome, Port, What};
+use hub_base::{Case, Edition, EntryRef, NoMemory, Outcome, Pid, Port, What};
 use hub_core::ShortEntries;
 use hub_story::Told;
 use hub_text::write_entry;
@@ -148,6 +149,23 @@ fn answer_cell(out: &mut Vec<u8>, start: usize, cases: &[Case], what: What) -> R
     Ok(())
 }
 
+/// What a step of these cases was told that has ended.
+fn ended_cell(
+    out: &mut Vec<u8>,
+    start: usize,
+    part: Part,
+    cases: &[Case],
+    what: What,
+) -> Result<(), NoMemory>
+    ensures { OnOk result (
+        LineBecomes start out.old.items out.new.items (λ line. with_cell ANSWER line (ended_words part cases.now what))) }
+{
+    let cell = open_cell(out, start, ANSWER)?;
+    put_ended(out, part, cases, what)?;
+    close_cell(out, cell);
+    Ok(())
+}
+
 /// How long a step waited that ended so.
 fn waited_cell(out: &mut Vec<u8>, start: usize, place: u32, told: &Told) -> Result<(), AllocError>
     ensures { OnOk result (
@@ -188,6 +206,32 @@ fn value_cell(
     Ok(())
 }
 
+/// Appends that the step is the clock's, if it is.
+fn put_clock(out: &mut Vec<u8>, clock: Option<Pid>, entry: &EntryRef<'_>) -> Result<(), AllocError>
+    ensures { OnOk result (out.new.items ≡ out.old.items ++ clock_words clock entry.now) }
+{
+    if is_clock(clock, entry.pid) {
+        return out.extend_from_slice(b"the clock");
+    }
+    Ok(())
+}
+
+/// That the step is the clock's, if it is.
+fn clock_cell(
+    out: &mut Vec<u8>,
+    start: usize,
+    clock: Option<Pid>,
+    entry: &EntryRef<'_>,
+) -> Result<(), AllocError>
+    ensures { OnOk result (
+        LineBecomes start out.old.items out.new.items (λ line. with_clock clock entry.now line)) }
+{
+    let cell = open_cell(out, start, VALUE)?;
+    put_clock(out, clock, entry)?;
+    close_cell(out, cell);
+    Ok(())
+}
+
 /// That it waits, and how long by the last of so many steps.
 fn put_waits(out: &mut Vec<u8>, start: usize, place: u32, count: usize) -> Result<(), NoMemory>
     ensures { OnOk result (LineBecomes start out.old.items out.new.items
@@ -202,6 +246,7 @@ fn put_waits(out: &mut Vec<u8>, start: usize, place: u32, count: usize) -> Resul
 fn put_end(
     out: &mut Vec<u8>,
     start: usize,
+    clock: Option<Pid>,
     entries: &ShortEntries,
     place: u32,
     entry: &EntryRef<'_>,
@@ -209,13 +254,14 @@ fn put_end(
     end: Option<Told>,
 ) -> Result<(), NoMemory>
     ensures { OnOk result (LineBecomes start out.old.items out.new.items
-        (λ line. with_end entries.now place entry.now partner line end)) }
+        (λ line. with_end clock entries.now place entry.now partner line end)) }
 {
     let Some(end) = end else {
         return put_waits(out, start, place, entries.len());
     };
     let cases = entry.step.cases();
-    answer_cell(out, start, cases, end.event.what)?;
+    let part = part_of(clock, entries, &end);
+    ended_cell(out, start, part, cases, end.event.what)?;
     waited_cell(out, start, place, &end)?;
     value_cell(out, start, entries, cases, partner, end.event.what)?;
     Ok(())
@@ -224,6 +270,7 @@ fn put_end(
 /// Appends the line of the entry at this place, without the newline.
 pub(crate) fn put_cells(
     out: &mut Vec<u8>,
+    clock: Option<Pid>,
     entries: &ShortEntries,
     place: u32,
     entry: &EntryRef<'_>,
@@ -231,12 +278,14 @@ pub(crate) fn put_cells(
     end: Option<Told>,
     came: &[Told],
 ) -> Result<(), NoMemory>
-    ensures { OnOk result (out.new.items ≡ out.old.items ++ cells entries.now place entry.now end partner came.now) }
+    ensures { OnOk result (out.new.items ≡ out.old.items
+        ++ cells clock entries.now place entry.now end partner came.now) }
 {
     let start = out.len();
     put_right(out, number_of(place))?;
     asks_cell(out, start, entry)?;
-    put_end(out, start, entries, place, entry, partner, end)?;
-    ends_cells(out, start, place, came)?;
+    put_end(out, start, clock, entries, place, entry, partner, end)?;
+    clock_cell(out, start, clock, entry)?;
+    ends_cells(out, start, clock, entries, place, came)?;
     Ok(())
 }

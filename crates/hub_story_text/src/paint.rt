@@ -12,7 +12,7 @@ pub enum Paint {
     /// As text alone.
     Plain,
     /// In colours, by escape sequences of terminals: red where the step was stalled, a fault, or a send on a closed channel, and
-    /// yellow where it waits to the end.
+    /// yellow where it waits to the end. The clock's waits have none.
     Colours,
 }
 
@@ -36,23 +36,25 @@ fn fired_colour(outcome: Outcome) -> Option<Colour>
     }
 }
 
-/// The colour of a step that ended so.
-fn ended_colour(what: What) -> Option<Colour>
-    ensures { result ≡ ended_colour what }
+/// The colour of a step that ended so, of the clock or of another process.
+fn ended_colour(own: bool, what: What) -> Option<Colour>
+    ensures { result ≡ ended_colour own what }
 {
     match what {
+        What::Stalled if own => None,
         What::Stalled | What::Fault(_) => Some(Colour::Red),
         What::Fired { case: _, outcome } => fired_colour(outcome),
         _ => None,
     }
 }
 
-/// The colour of a step, by how it ended.
-pub(crate) fn colour_of(end: Option<Told>) -> Option<Colour>
-    ensures { result ≡ colour_of end }
+/// The colour of a step, of the clock or of another process, by how it ended.
+pub(crate) fn colour_of(own: bool, end: Option<Told>) -> Option<Colour>
+    ensures { result ≡ colour_of own end }
 {
     match end {
-        Some(told) => ended_colour(told.event.what),
+        Some(told) => ended_colour(own, told.event.what),
+        None if own => None,
         None => Some(Colour::Yellow),
     }
 }

@@ -4,12 +4,14 @@ ghost use Rattle.std.specs.Prelude.{◌≡◌, ◌≤◌, ◌<◌, ◌+◌, ◌+
 ghost use Rattle.hub_story.specs.Levels.{told_by};
 ghost use Rattle.hub_story.specs.Stories.{IsFrom};
 ghost use Rattle.hub_story.specs.Waiting.{is_stalled};
+ghost use Rattle.hub_story_text.specs.Clock.{to_others};
 ghost use Rattle.hub_story_text.specs.Explained.{IsExplained, entries_of, told_of};
 ghost use Rattle.hub_story_text.specs.LastMoves.{AreLast, IsWhole, mover_at};
 ghost use Rattle.hub_story_text.specs.StoryText.{came_by, stall_heading, steps_text};
 ghost use Rattle.hub_story_text.specs.WaiterText.{waiters_words};
 
 use crate::Window;
+use crate::clock::to_others;
 use crate::explained::{Explained, put_painted_line};
 use crate::last_moves::LastMoves;
 use crate::packed_text::PackedText;
@@ -51,7 +53,7 @@ pub fn stalled_of(alloc: Global, came: &[Told]) -> Result<Vec<Told>, AllocError>
     Ok(stalled)
 }
 
-/// Appends those whom a step stalled.
+/// Appends those whom a step stalled, but not the clock.
 fn put_stalled(
     out: &mut Vec<u8>,
     explained: &Explained,
@@ -61,11 +63,12 @@ fn put_stalled(
     ensures { OnOk result (out.new.items ≡ out.old.items
         ++ waiters_words [] stall_heading (entries_of explained.now)
         (mover_at moves.now.sent.items) (mover_at moves.now.received.items) moves.now.left.items
-        (filter (λ t. is_stalled t.event.what) came.now)) }
+        (to_others explained.now.clock (filter (λ t. is_stalled t.event.what) came.now))) }
 {
     let stalled = stalled_of(*out.allocator(), came)?;
+    let others = to_others(*out.allocator(), explained.clock, &stalled)?;
     let entries = explained.journal.entries();
-    put_waiters(out, b"", STALL_HEADING, entries, moves, &stalled)?;
+    put_waiters(out, b"", STALL_HEADING, entries, moves, &others)?;
     Ok(())
 }
 
@@ -80,7 +83,8 @@ pub(crate) fn put_steps(
     requires none { AreLast (entries_of explained.now) [] moves.old }
     requires whole { IsWhole moves.old }
     ensures text { OnOk result (out.new.items ≡ out.old.items
-        ++ steps_text explained.now.paint window (entries_of explained.now) (told_of explained.now) 0 (entries_of explained.now)) }
+        ++ steps_text explained.now.paint window explained.now.clock (entries_of explained.now) (told_of explained.now)
+        0 (entries_of explained.now)) }
     ensures last { OnOk result (AreLast (entries_of explained.now)
         (told_by (length (entries_of explained.now)) (told_of explained.now)) moves.new) }
 {

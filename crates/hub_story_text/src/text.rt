@@ -5,9 +5,10 @@ ghost use Rattle.hub_story.specs.Stories.{IsShortStoryOf};
 ghost use Rattle.hub_story_text.specs.Explained.{IsExplained, entries_of, told_of};
 ghost use Rattle.hub_story_text.specs.LastMoves.{AreLast, IsWhole};
 ghost use Rattle.hub_story_text.specs.PortMoves.{AreMoves};
-ghost use Rattle.hub_story_text.specs.StoryText.{painted_text, story_text};
+ghost use Rattle.hub_story_text.specs.StoryText.{painted_text, story_text, text_with};
 
 use crate::Window;
+use crate::clock::{clock_of, to_others};
 use crate::explained::Explained;
 use crate::last_moves::LastMoves;
 use crate::packed_text::PackedText;
@@ -43,20 +44,26 @@ fn put_story(
     requires none { AreLast (entries_of explained.now) [] last.old }
     requires whole { IsWhole last.old }
     ensures { OnOk result (out.new.items ≡
-        out.old.items ++ painted_text explained.now.paint window (entries_of explained.now) (told_of explained.now)) }
+        out.old.items
+        ++ text_with explained.now.clock explained.now.paint window (entries_of explained.now) (told_of explained.now)) }
 {
     out.push(HEADING)?;
     put_steps(out, last, explained, window)?;
     let mut rest = Vec::new(*last.left.allocator());
     put_ports(&mut rest, explained.journal, explained.story, moves)?;
     put_waits(&mut rest, explained)?;
+    let others = to_others(
+        *last.left.allocator(),
+        explained.clock,
+        &explained.story.waiting,
+    )?;
     put_waiters(
         &mut rest,
         END_NOBODY,
         END_HEADING,
         explained.journal.entries(),
         last,
-        &explained.story.waiting,
+        &others,
     )?;
     out.push(&rest)?;
     Ok(())
@@ -74,13 +81,15 @@ fn push_painted(
     requires story { IsShortStoryOf journal.now story.now }
     requires few { length journal.now.entries < 2 ^ 32 - 1 }
     ensures { OnOk result (
-        out.new.items ≡ out.old.items ++ painted_text paint window journal.now.entries story.now.told.items) }
+        out.new.items ≡ out.old.items
+        ++ painted_text paint window journal.now.head journal.now.entries story.now.told.items) }
 {
     let moves = PortMoves::of(alloc, journal.entries(), &story.told)?;
     let partners = partners_of(alloc, journal, story, &moves)?;
     let explained = Explained {
         journal,
         story,
+        clock: clock_of(journal),
         partners: &partners,
         paint,
     };
@@ -99,14 +108,16 @@ pub fn push_story(
     requires story { IsShortStoryOf journal.now story.now }
     requires few { length journal.now.entries < 2 ^ 32 - 1 }
     ensures { OnOk result (
-        out.new.items ≡ out.old.items ++ story_text window journal.now.entries story.now.told.items) }
+        out.new.items ≡ out.old.items
+        ++ story_text window journal.now.head journal.now.entries story.now.told.items) }
 {
     push_painted(out, alloc, journal, story, window, Paint::Plain)
 }
 
 /// The story of a journal as text: a line for each step that the window has, with those whom it stalled below it; then a line for
 /// each port that was made, which calls waited longest, and who waits in the end. Steps and the numbers of entries are counted from 1.
-/// The lines of steps are in colours if these are asked for. `Err` where memory was refused.
+/// The lines of steps are in colours if these are asked for. Calls that the journal's clock cancels are told to have timed out.
+/// `Err` where memory was refused.
 pub fn story_text(
     alloc: Global,
     journal: &ShortJournal,
@@ -116,7 +127,8 @@ pub fn story_text(
 ) -> Result<PackedText, NoMemory>
     requires story { IsShortStoryOf journal.now story.now }
     requires few { length journal.now.entries < 2 ^ 32 - 1 }
-    ensures { IfOk result (λ text. text.items ≡ painted_text paint window journal.now.entries story.now.told.items) }
+    ensures { IfOk result (λ text.
+        text.items ≡ painted_text paint window journal.now.head journal.now.entries story.now.told.items) }
 {
     let mut out = PackedText::new(alloc);
     push_painted(&mut out, alloc, journal, story, window, paint)?;

@@ -4,11 +4,12 @@ ghost use Rattle.std.specs.Prelude.{◌≡◌, ◌≤◌, ◌<◌, ◌+◌, ◌-
 ghost use Rattle.std.specs.List.{cons_option, flat_map};
 ghost use Rattle.hub_story_text.specs.declared.waits.Wait.{Wait};
 ghost use Rattle.hub_story_text.specs.Explained.{IsExplained, entries_of, told_of};
-ghost use Rattle.hub_story_text.specs.Waits.{AreWaits, is_call, line_at, wait_of, waits, waits_text, with_wait};
+ghost use Rattle.hub_story_text.specs.Waits.{AreWaits, counts, is_call, line_at, told_wait, wait_of, waits, waits_text, with_wait};
 
+use crate::clock::{is_by_clock, is_clock};
 use crate::explained::{Explained, put_told_line};
 use crate::numbers::put_number;
-use hub_base::{Case, NoMemory, Step, StepRef};
+use hub_base::{Case, EntryRef, NoMemory, Pid, Step, StepRef};
 use hub_core::ShortEntries;
 use hub_story::Told;
 use std::alloc::{AllocError, Global};
@@ -54,6 +55,19 @@ fn wait_of(count: usize, place: usize, end: Option<Told>) -> Option<Wait>
     }
 }
 
+/// The wait of the call at this place, unless it is the clock's.
+fn told_wait(explained: &Explained, place: usize) -> Option<Wait>
+    requires explained { IsExplained explained.now }
+    requires within { place < length (entries_of explained.now) }
+    ensures { result ≡ told_wait explained.now.clock (entries_of explained.now) (told_of explained.now) place }
+{
+    let entries = explained.journal.entries();
+    if is_by_clock(explained.clock, entries, place as u32) {
+        return None;
+    }
+    wait_of(entries.len(), place, explained.end(place))
+}
+
 /// Behind how many of these, which stand longest first, a wait comes.
 fn rank_of(ranked: &[Wait], wait: Wait) -> usize
     ensures within { result ≤ length ranked.now }
@@ -95,7 +109,7 @@ impl Waits {
     /// All of a journal.
     fn of(alloc: Global, explained: &Explained) -> Result<Waits, AllocError>
         requires explained { IsExplained explained.now }
-        ensures { IfOk result (AreWaits (waits (entries_of explained.now) (told_of explained.now))) }
+        ensures { IfOk result (AreWaits (waits explained.now.clock (entries_of explained.now) (told_of explained.now))) }
     {
         let count = explained.journal.entries().len();
         let mut waits = Waits {
@@ -103,7 +117,7 @@ impl Waits {
             longest: Vec::new(alloc),
         };
         for place in 0..count {
-            waits.note(wait_of(count, place, explained.end(place)))?;
+            waits.note(told_wait(explained, place))?;
         }
         Ok(waits)
     }
@@ -116,14 +130,21 @@ fn is_call(step: &StepRef<'_>) -> bool
     matches!(step, Step::Call { .. })
 }
 
-/// How many of these entries are calls.
-fn calls_of(entries: &ShortEntries) -> usize
-    ensures { result ≡ count_by (λ e. is_call e.step) entries.now }
+/// Whether the entry is a call, and not the clock's.
+fn counts(clock: Option<Pid>, entry: &EntryRef<'_>) -> bool
+    ensures { result ≡ counts clock entry.now }
+{
+    is_call(&entry.step) && !is_clock(clock, entry.pid)
+}
+
+/// How many of these entries are calls, and not the clock's.
+fn calls_of(clock: Option<Pid>, entries: &ShortEntries) -> usize
+    ensures { result ≡ count_by (counts clock) entries.now }
 {
     let mut calls = 0;
     let mut one = Case::default();
     for place in 0..entries.len() {
-        calls += usize::from(is_call(&entries.entry(place, &mut one).step));
+        calls += usize::from(counts(clock, &entries.entry(place, &mut one)));
     }
     calls
 }
@@ -132,7 +153,7 @@ fn calls_of(entries: &ShortEntries) -> usize
 fn put_wait(out: &mut Vec<u8>, explained: &Explained, wait: Wait) -> Result<(), NoMemory>
     requires explained { IsExplained explained.now }
     ensures { OnOk result (out.new.items ≡
-        out.old.items ++ line_at (entries_of explained.now) (told_of explained.now) wait) }
+        out.old.items ++ line_at explained.now.clock (entries_of explained.now) (told_of explained.now) wait) }
 {
     let mut one = Case::default();
     let entries = explained.journal.entries();
@@ -146,7 +167,8 @@ fn put_wait(out: &mut Vec<u8>, explained: &Explained, wait: Wait) -> Result<(), 
 fn put_longest(out: &mut Vec<u8>, explained: &Explained, longest: &[Wait]) -> Result<(), NoMemory>
     requires explained { IsExplained explained.now }
     ensures { OnOk result (out.new.items ≡
-        out.old.items ++ flat_map (line_at (entries_of explained.now) (told_of explained.now)) longest.now) }
+        out.old.items
+        ++ flat_map (line_at explained.now.clock (entries_of explained.now) (told_of explained.now)) longest.now) }
 {
     for wait in longest {
         put_wait(out, explained, *wait)?;
@@ -158,11 +180,15 @@ fn put_longest(out: &mut Vec<u8>, explained: &Explained, longest: &[Wait]) -> Re
 pub(crate) fn put_waits(out: &mut Vec<u8>, explained: &Explained) -> Result<(), NoMemory>
     requires explained { IsExplained explained.now }
     ensures { OnOk result (out.new.items ≡
-        out.old.items ++ waits_text (entries_of explained.now) (told_of explained.now)) }
+        out.old.items ++ waits_text explained.now.clock (entries_of explained.now) (told_of explained.now)) }
 {
     let waits = Waits::of(*out.allocator(), explained)?;
     put_number(out, b"", waits.count as u64)?;
-    put_number(out, b" of ", calls_of(explained.journal.entries()) as u64)?;
+    put_number(
+        out,
+        b" of ",
+        calls_of(explained.clock, explained.journal.entries()) as u64,
+    )?;
     out.extend_from_slice(b" calls waited, the longest first, five at most\n")?;
     put_longest(out, explained, &waits.longest)
 }

@@ -119,7 +119,7 @@ pub(crate) fn story_of_steps(
     requires head { IsHead journal.now.head }
     requires few { length journal.now.entries < 2 ^ 32 - 1 }
     ensures { IfOk result (λ text. text.items
-        ≡ painted_text paint window journal.now.entries (told journal.now.head journal.now.entries)) }
+        ≡ painted_text paint window journal.now.head journal.now.entries (told journal.now.head journal.now.entries)) }
 {
     let story = short_story_of(alloc, journal)?;
     story_text(alloc, journal, &story, window, paint)

@@ -7,4 +7,4 @@ returns c =
     let at : length before ≡ c.len-start.result = omega (arith, c.len-start.ensures, c.args.out.now.ok) in
     let number = rw c.number_of.ensures at c.in_ok-put_right.ensures in
     let end = c.in_ok-put_end.ensures before _ at (c.in_ok-asks_cell.ensures before _ at number) in
-    c.in_ok-ends_cells.ensures before _ at end
+    c.in_ok-ends_cells.ensures before _ at (c.in_ok-clock_cell.ensures before _ at end)

@@ -27,6 +27,8 @@ loop-place-preserved c =
     let so = c.loop-place.invariant in
     let es = entries_of c.args.explained.now in
     let told = told_of c.args.explained.now in
+    let paint = c.args.explained.now.paint in
+    let clock = c.args.explained.now.clock in
     let place = c.loop-place.place in
     let out = c.loop-place.out.items in
     let next = next-cut _ _ _ _ _ _ so.cut c.count_of.ensures.came c.count_of.ensures.rest c.split_at.ensures.front c.split_at.ensures.back in
@@ -40,12 +42,12 @@ loop-place-preserved c =
             last = last;
             whole = c.note_all.ensures.whole;
             text =
-                step-shown c.args.explained.now.paint c.args.window es told place c.entry-entry.result out w.push.new.self.items _ below
+                step-shown paint c.args.window clock es told place c.entry-entry.result out w.push.new.self.items _ below
                 (sym c.has.ensures ∙ w.if-has.true) so.text
                 (line-more out w.push.new.self.items _ w.put_stalled.new.out.items w.put_painted_line.new.out.items w.clear.new.self.items _ _
                 w.in_ok-push.ensures w.deref.ensures.value w.in_ok-put_stalled.ensures w.in_ok-put_painted_line.ensures w.clear.ensures.items
-                ∙ ap (λ l. out ++ l) (step-is c.args.explained.now.paint es told place c.entry-entry.result _ c.note_all.new.self next.came last)
-                ∙ ap (λ e. out ++ step_text c.args.explained.now.paint es told place e)
+                ∙ ap (λ l. out ++ l) (step-is paint clock es told place c.entry-entry.result _ c.note_all.new.self next.came last)
+                ∙ ap (λ e. out ++ step_text paint clock es told place e)
                 (sym (get_or_from_slice_get es place c.entry-entry.result c.entry-entry.result (rw c.entries-entries.ensures at c.entry-entry.ensures))));
           })
       | else-has w ↦
@@ -54,7 +56,7 @@ loop-place-preserved c =
             last = last;
             whole = c.note_all.ensures.whole;
             text =
-                step-hidden c.args.explained.now.paint c.args.window es told place c.entry-entry.result out _ below
+                step-hidden paint c.args.window clock es told place c.entry-entry.result out _ below
                 (sym c.has.ensures ∙ w.if-has.false) so.text;
           })
     ]
@@ -69,9 +71,12 @@ returns-clause-last c =
 pub returns-clause-text : goal.returns-clause-text
 returns-clause-text c =
     let es = entries_of c.args.explained.now in
+    let told = told_of c.args.explained.now in
+    let paint = c.args.explained.now.paint in
+    let clock = c.args.explained.now.clock in
     let place = c.loop-place.place in
     let out = c.loop-place.out.items in
     let past : length es ≤ place = omega (arith, c.loop-place-test.false, ap length c.entries-entries.ensures) in
     sym (append-nil out)
-    ∙ ap (λ l. out ++ steps_text c.args.explained.now.paint c.args.window es (told_of c.args.explained.now) place l) (sym (drop_all place es past))
+    ∙ ap (λ l. out ++ steps_text paint c.args.window clock es told place l) (sym (drop_all place es past))
     ∙ c.loop-place.invariant.text

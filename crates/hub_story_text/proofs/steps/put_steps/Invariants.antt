@@ -11,6 +11,7 @@ invariant-loop-place l = record {
   cut : IsCut l.place (told_of l.explained) (told_by l.place (told_of l.explained)) l.rest;
   last : AreLast (entries_of l.explained) (told_by l.place (told_of l.explained)) l.moves;
   whole : IsWhole l.moves;
-  text : l.out.items ++ steps_text l.explained.paint l.window (entries_of l.explained) (told_of l.explained) l.place (drop l.place (entries_of l.explained))
-      ≡ l.fn.out.items ++ steps_text l.explained.paint l.window (entries_of l.explained) (told_of l.explained) 0 (entries_of l.explained);
+  text : l.out.items ++ steps_text l.explained.paint l.window l.explained.clock (entries_of l.explained) (told_of l.explained) l.place
+      (drop l.place (entries_of l.explained))
+      ≡ l.fn.out.items ++ steps_text l.explained.paint l.window l.explained.clock (entries_of l.explained) (told_of l.explained) 0 (entries_of l.explained);
 }

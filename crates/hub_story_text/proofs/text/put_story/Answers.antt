@@ -18,11 +18,13 @@ pub returns : goal.returns
 returns c =
     let es = entries_of c.args.explained.now in
     let told = told_of c.args.explained.now in
-    let steps = steps_text c.args.explained.now.paint c.args.window es told 0 es in
-    let waits = rw (c.entries.ensures, c.deref.ensures.value, c.requires.explained.story.waiting) at c.in_ok-put_waiters.ensures in
+    let clock = c.args.explained.now.clock in
+    let steps = steps_text c.args.explained.now.paint c.args.window clock es told 0 es in
+    let others = rw (c.deref.ensures.value, c.requires.explained.story.waiting) at c.in_ok-others.ensures in
+    let waits = rw (c.entries.ensures, c.deref-2.ensures.value, others) at c.in_ok-put_waiters.ensures in
     rw (
       c.in_ok-push-2.ensures,
-      c.deref-2.ensures.value,
+      c.deref-3.ensures.value,
       waits,
       c.in_ok-put_waits.ensures,
       c.in_ok-put_ports.ensures,
@@ -30,6 +32,6 @@ returns c =
       c.in_ok-put_steps.ensures.text,
       c.in_ok-push.ensures,
     )
-    (five-behind c.args.out.now.items heading steps (ports_text es told) (waits_text es told) _
-    ∙ ap (λ l. c.args.out.now.items ++ (heading ++ steps ++ ports_text es told ++ waits_text es told ++ l))
-    (waiters-told end_nobody end_heading es (told_by (length es) told) c.put_steps.new.moves c.in_ok-put_steps.ensures.last _))
+    (five-behind c.args.out.now.items heading steps (ports_text es told) (waits_text clock es told) _
+    ∙ ap (λ l. c.args.out.now.items ++ (heading ++ steps ++ ports_text es told ++ waits_text clock es told ++ l))
+    (waiters-told end_nobody end_heading clock es (told_by (length es) told) c.put_steps.new.moves c.in_ok-put_steps.ensures.last _))

@@ -6,5 +6,5 @@ use Rattle.hub_story_text.proofs.waits.put_longest.Given as goal
 
 abbrev pub invariant-loop-wait : goal.invariant-loop-wait
 invariant-loop-wait l =
-    l.out.items ++ flat_map (line_at (entries_of l.explained) (told_of l.explained)) (drop l.wait-index l.longest)
-    ≡ l.fn.out.items ++ flat_map (line_at (entries_of l.explained) (told_of l.explained)) l.longest
+    l.out.items ++ flat_map (line_at l.explained.clock (entries_of l.explained) (told_of l.explained)) (drop l.wait-index l.longest)
+    ≡ l.fn.out.items ++ flat_map (line_at l.explained.clock (entries_of l.explained) (told_of l.explained)) l.longest

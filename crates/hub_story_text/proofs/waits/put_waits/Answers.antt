@@ -1,8 +1,7 @@
 use Rattle.std.proofs.Common.{◌++◌, [], codes, count_by, decimal, length}
 use Rattle.std.specs.List.{flat_map}
-use Rattle.hub_base.specs.Entry.{Entry}
 use Rattle.hub_story_text.specs.Explained.{entries_of, told_of}
-use Rattle.hub_story_text.specs.Waits.{is_call, line_at, longest, waits}
+use Rattle.hub_story_text.specs.Waits.{counts, line_at, longest, waits}
 use Rattle.hub_story_text.proofs.Chains.{on-ok, two, one-more, two-more}
 use Rattle.hub_story_text.proofs.waits.put_waits.Goals as goal
 
@@ -10,9 +9,10 @@ pub returns : goal.returns
 returns c =
     let es = entries_of c.args.explained.now in
     let told = told_of c.args.explained.now in
+    let clock = c.args.explained.now.clock in
     let out = c.args.out.now.items in
-    let waited = decimal (length (waits es told)) in
-    let calls = decimal (count_by (λ (e : Entry). is_call e.step) es) in
+    let waited = decimal (length (waits clock es told)) in
+    let calls = decimal (count_by (counts clock) es) in
     let counted = rw c.entries.ensures at c.calls_of.ensures in
     let first = two out c.put_number.new.out.items [] waited (rw c.in_ok-waits.ensures.count at c.in_ok-put_number.ensures) in
     let second = two-more out c.put_number.new.out.items c.put_number-2.new.out.items waited (codes " of ") calls first
@@ -22,5 +22,5 @@ returns c =
     words second c.in_ok-extend_from_slice.ensures.items in
     on-ok c.put_longest.result
     (one-more out c.extend_from_slice.new.self.items c.put_longest.new.out.items (waited ++ codes " of " ++ calls ++ words)
-    (flat_map (line_at es told) (longest (waits es told))) heading)
+    (flat_map (line_at clock es told) (longest (waits clock es told))) heading)
     (rw (c.deref.ensures.value, c.in_ok-waits.ensures.longest) at c.put_longest.ensures)

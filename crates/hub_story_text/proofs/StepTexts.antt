@@ -58,7 +58,7 @@ waiters-told nobody heading clock es until moves so ts =
 
 -- ---- one step more
 -- what is shown of a step where this says so
-shown : Bool → Paint → Option Pid → List Entry → List Told → ℕ → Entry → List ℕ
+abbrev shown : Bool → Paint → Option Pid → List Entry → List Told → ℕ → Entry → List ℕ
 shown b paint clock es all place e = if b then step_text paint clock es all place e else []
 
 step-first : (paint : Paint) (w : Window) (clock : Option Pid) (es : List Entry) (all : List Told) (place : ℕ) (rest : List Entry) (d : Entry) →

@@ -62,7 +62,7 @@ A hub can follow a journal, so that a run is repeated exactly as it was:
 If the journal's hub had timeouts, each call times out, or is answered, as it was there, however long that takes.
 
 Ctrl-C interrupts a wait of the main thread with KeyboardInterrupt. Nothing is lost: the call stays open, `seat.waits` is true, and
-`seat.resume()` resumes the wait. When a `with Hub` block ends, no new call begins, and each waiting call ends. A hub belongs to the
+`seat.resume()` resumes the wait. (Before Python 3.10, an answer that comes just then may be lost on its way to the caller.) When a `with Hub` block ends, no new call begins, and each waiting call ends. A hub belongs to the
 operating-system process that opened it: in a forked child, every call on it raises RuntimeError.
 """
 from __future__ import annotations
@@ -71,6 +71,7 @@ import ctypes
 import errno
 import os
 import struct
+import sys
 import threading
 import weakref
 from collections import defaultdict, deque
@@ -282,11 +283,12 @@ def _library() -> ctypes.CDLL:
 
 def _quick_type() -> Any:
     """Loads chanhub_calls.c, by which a send or a receive that need not wait takes a third of the time, and returns its type. Returns None
-    if it was not built, if this Python cannot load it, or if CHANHUB_CALLS says `ctypes`."""
+    if it was not built, if this Python cannot load it, or if CHANHUB_CALLS says `ctypes`. Also before Python 3.10, where an exception of
+    a signal handler may come between a subscript and its store, so that an answer would be lost."""
     here = os.path.dirname(os.path.abspath(__file__))
     places = [os.path.join(folder, 'chanhub_calls.abi3.so') for folder in (here, os.path.join(here, '..', 'out'))]
     path = next(filter(os.path.exists, places), None)
-    if path is None or os.environ.get('CHANHUB_CALLS') == 'ctypes':
+    if path is None or os.environ.get('CHANHUB_CALLS') == 'ctypes' or sys.version_info < (3, 10):
         return None
     try:
         loader = ExtensionFileLoader('chanhub_calls', path)
@@ -403,7 +405,7 @@ def _fired(told: _Told) -> Optional[Fired]:
 def _received(things: Dict[int, Any], told: _Told) -> Any:
     """Takes the object with the number that was received, and returns it. An interrupt may follow, and then this is called again."""
     if not hasattr(told, 'thing'):
-        told.thing, = starmap(things.pop, ((told.number,),))
+        vars(told).update(zip(('thing',), starmap(things.pop, ((told.number,),))))  # within one step of the interpreter
     return told.thing
 
 
@@ -522,10 +524,15 @@ class _ToFunction(_To):
 
     def finish(self) -> None:
         with self._giving:
-            while self._give_one():
-                pass
+            self._give_all()
             # It may refer to the hub.
             self._function = _ignore
+
+    def _give_all(self) -> None:
+        """Gives all chapters that are left. It is a function, since in Python 3.13 a `with` misses an exception between two rounds of a
+        loop in it, and the lock would stay held."""
+        while self._give_one():
+            pass
 
     def _give_one(self) -> bool:
         """Gives the oldest chapter that is left. Returns whether it did: it does not if there is none, nor within the function, where
@@ -912,12 +919,17 @@ class Hub:
         """Exits all processes that are not waiting, once the hub has ended. An exit may end calls by a stall, so this repeats until
         no process exits. A call that ends later does the same again, and the last one adds the chapters that are left."""
         with self._settling:
-            told = self._exit_all()
-            while any(each.what == DONE for each in told):
-                told = self._exit_all()
+            told = self._exit_repeatedly()
             if self._chapters and not self._has_all.is_set() and not any(each.fault == BUSY for each in told):
                 self._add_kept(self._chapters)
         self._give_fallen()
+
+    def _exit_repeatedly(self) -> List[_Told]:
+        """Exits each process that is not waiting, until none exits. Returns the last answers. It is a function as `_give_all` is."""
+        told = self._exit_all()
+        while any(each.what == DONE for each in told):
+            told = self._exit_all()
+        return told
 
     def _exit_all(self) -> List[_Told]:
         """Exits each process that is not waiting. Returns the answers of the exits."""
@@ -929,8 +941,8 @@ class Hub:
         if pid in self._left and pid not in self._resumed:
             gives, told = self._left[pid]
             if told.what == WAITING:
-                told, = starmap(_resume, ((self._handle, pid, 0),))
-                self._left[pid] = gives, told
+                # Within one step of the interpreter.
+                self._left.update(zip((pid,), zip((gives,), starmap(_resume, ((self._handle, pid, 0),)))))
         exited: _Told = _LIBRARY.chanhub_exit(self._handle, pid)
         return exited
 
@@ -1197,36 +1209,45 @@ class Seat:
         call's turn has not come, `asked` makes it again.
 
         An exception may occur between any two steps of the interpreter: KeyboardInterrupt, or any other that a signal handler raises.
-        No answer is lost, because `told, = starmap(..)` calls the library and stores its answer within one step.
+        No answer is lost, because `answer += asked` calls the library and stores its answer within one step. The loops are in
+        another function, since in Python 3.13 a `try` misses an exception between two rounds of a loop in it.
         """
         hub, pid = self.hub, self.pid
-        told: Optional[_Told] = None
+        answer: List[_Told] = []
         try:
-            told, = islice(asked, 1)
-            while told.fault == NOT_YET:
-                told = None
-                self._wait_for_turn()
-                told, = islice(asked, 1)
-            if hub._fallen:
-                hub._give_fallen()
-            while told.what == WAITING:
-                if hub._live is None:
-                    hub._expire(pid)  # it began to wait when the hub had ended
-                told, = starmap(_resume, ((hub._handle, pid, _SLICE if get_ident() == _main else _FOR_EVER),))
-                if told.fault and told.what == WAITING:  # it has timed out, but there is no memory to end it
-                    raise Fault(told.fault)
+            answer += islice(asked, 1)
+            told = answer[0]
+            if told.what == WAITING or told.fault == NOT_YET or hub._fallen:
+                told = self._last_answer(asked, answer)
             if hub._left:
                 hub._left.pop(pid, None)
                 hub._resumed.discard(pid)
             try:
                 return gives(told) if hub._live else self._give(gives, told)
             except (Ended, Fault, ValueError):
-                told = None
+                answer.clear()
                 raise
         except BaseException:
-            if told is not None:
-                hub._left[pid] = gives, told
+            if answer:
+                hub._left[pid] = gives, answer[0]
             raise
+
+    def _last_answer(self, asked: Iterable[_Told], answer: List[_Told]) -> _Told:
+        """Waits for the final answer, and returns it. `answer` always has the last one, unless the call's turn has not come."""
+        hub, pid = self.hub, self.pid
+        while answer[0].fault == NOT_YET:
+            answer.clear()
+            self._wait_for_turn()
+            answer += islice(asked, 1)
+        if hub._fallen:
+            hub._give_fallen()
+        while answer[0].what == WAITING:
+            if hub._live is None:
+                hub._expire(pid)  # it began to wait when the hub had ended
+            answer[:] = starmap(_resume, ((hub._handle, pid, _SLICE if get_ident() == _main else _FOR_EVER),))
+            if answer[0].fault and answer[0].what == WAITING:  # it has timed out, but there is no memory to end it
+                raise Fault(answer[0].fault)
+        return answer[0]
 
     def _submit(self, call: Callable[..., Any], *arguments: Any) -> Future[Any]:
         """Has the thread that makes the awaited calls of the process make this one."""

@@ -50,7 +50,7 @@ class Worker:
 
     def value(self):
         if self.edition == 2 and self.random.random() < 0.5:
-            return self.random.randbytes(self.random.randrange(33))
+            return bytes(self.random.choices(range(256), k=self.random.randrange(33)))
         return self.random.getrandbits(64)
 
     def case(self):

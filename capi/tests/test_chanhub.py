@@ -744,7 +744,8 @@ print('ends')
 """
 
 FORKS = """
-import gc, os, sys, threading, time
+import gc, os, sys, threading, time, warnings
+warnings.simplefilter('ignore', DeprecationWarning)  # of a fork beside threads, from Python 3.12 on
 from chanhub import Hub
 hub = Hub(procs=3, keep=100_000)
 seat = hub.seat(0)
@@ -776,8 +777,8 @@ for _ in range(20):
         if sys.argv[1] == 'exits':
             sys.exit(7)
         break
-    status = os.waitstatus_to_exitcode(os.waitpid(child, 0)[1])
-    if status != (7 if sys.argv[1] == 'exits' else 0):
+    status = os.waitpid(child, 0)[1]
+    if status != (7 << 8 if sys.argv[1] == 'exits' else 0):  # the exit status 7
         print('child', status)
 if child:
     hub.look(1), hub.journal()
@@ -786,7 +787,8 @@ if child:
 
 
 FORKS_WITH_CHAPTERS = """
-import gc, os, sys, threading, time
+import gc, os, sys, threading, time, warnings
+warnings.simplefilter('ignore', DeprecationWarning)  # of a fork beside threads, from Python 3.12 on
 from chanhub import Hub
 given = []
 to = given.append if sys.argv[1] == 'function' else sys.argv[1]
@@ -824,7 +826,7 @@ for _ in range(10):
             print('no chapters of its own')
         sys.stdout.flush()
         os._exit(0)
-    status = os.waitstatus_to_exitcode(os.waitpid(child, 0)[1])
+    status = os.waitpid(child, 0)[1]
     if status != 0:
         print('child', status)
 while len(given if to == given.append else os.listdir(to)) <= 20:

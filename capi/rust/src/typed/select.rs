@@ -21,7 +21,7 @@ const FIRES: &str = "a select without a default fires a case, or ends";
 ///
 /// [`send`](Select::send) and [`recv`](Select::recv) each add a case and return its index. Then [`select`](Select::select) waits
 /// until a case can proceed, or [`try_select`](Select::try_select) fires one that can at once. The [`SelectedOperation`] that they
-/// return says which one fired, and gives its result.
+/// return says which one fired, and gives its result. If the cases are fixed, [`select!`](crate::select) is shorter.
 ///
 /// If several cases can proceed, a random one of them fires. A hub has up to 16 cases in a select, and 8 in
 /// [`Edition::One`](crate::Edition::One).

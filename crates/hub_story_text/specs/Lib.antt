@@ -1,4 +1,5 @@
 pub mod Clock
+pub mod ClockRows
 pub mod Cells
 pub mod Writing
 pub mod AnswerText

@@ -1,5 +1,4 @@
 pub mod Clock
-pub mod ClockRows
 pub mod Cells
 pub mod Writing
 pub mod AnswerText

@@ -1,5 +1,5 @@
 -- An admitted step before the stall rule: its fault, or what it does; and the stall rule behind it.
-use Rattle.std.proofs.Common.{◌≡◌, ◌∙◌, ◌∷◌, [], ℕ, List, Option, Some, None, Result, Ok, Err, ap, sym, subst, refl, cond, true, false, not}
+use Rattle.std.proofs.Common.{◌≡◌, ◌∙◌, ◌∷◌, [], ℕ, List, Option, Some, None, Result, Ok, Err, ap, sym, subst, refl, cond, true, false}
 use Rattle.std.specs.Prelude.{OnOk, OnErr}
 use Rattle.hub_base.specs.declared.value.Pid.{Pid}
 use Rattle.hub_base.specs.Entry.{Entry, Step}

@@ -1,12 +1,15 @@
 -- Entries that are kept short, and how they are written out.
-use Rattle.std.proofs.Common.{◌≡◌, ◌∙◌, ◌++◌, ◌≤◌, ◌<◌, ◌+◌, ◌∷◌, [], ℕ, zero, suc, List, Some, None, length, take, drop}
+use Rattle.std.proofs.Common.{◌≡◌, ◌∙◌, ◌++◌, ◌≤◌, ◌<◌, ◌+◌, ◌∷◌, [], Bool, ℕ, zero, suc, List, Some, None, length, take, drop}
 use Rattle.std.proofs.Common.{ap, sym, subst, refl, arith, append-nil, append_assoc, length-append}
 use Rattle.std.specs.Prelude.{get_or, slice_get, slice_index_or}
 use Rattle.std.proofs.lemmas.List.{take-append-le, drop-append-le, drop-drop, length-drop}
 use Rattle.std.proofs.lemmas.Option.{none-some, same_Some, slice_get_past, slice_get_read}
 use Rattle.std.proofs.Math.Seq.{take-length, drop-length, drop-cons}
 use Rattle.hub_base.specs.declared.case.Case.{Case}
-use Rattle.hub_base.specs.Entry.{Entry}
+use Rattle.hub_base.specs.Entry.{Entry, Step}
+use Rattle.hub_base.specs.declared.entry.Step.TheVariants.{Call}
+use Rattle.hub_base.specs.Values.{cases_or}
+use Rattle.arrayvec.specs.ArrayVec.{ArrayVec}
 use Rattle.hub_base.specs.declared.limits.TheConstants.{CASE_PLACES}
 use Rattle.hub_base.specs.declared.value.Value.{Value}
 use Rattle.hub_base.specs.Content.{Content}
@@ -15,7 +18,7 @@ use Rattle.hub_base.specs.Value.{content, number_in, saying, value_of}
 use Rattle.hub_base.proofs.Values.{every_value}
 use Rattle.hub_core.specs.declared.brief.Brief.{Brief}
 use Rattle.hub_core.specs.declared.brief.Brief.TheVariants as brief
-use Rattle.hub_core.specs.LogView.{AreBriefs, BeginsAt, IsBriefOf, StandFrom, case_count, cases_beside, entry_of, first_of, own_of, written}
+use Rattle.hub_core.specs.LogView.{AreBriefs, BeginsAt, IsBriefOf, IsWhole, StandFrom, case_count, cases_beside, entry_of, first_of, own_of, written}
 
 -- a value that is a number
 pub number_again : (v : Value) (n : ℕ) → number_in (content v) ≡ Some n → value_of n ≡ v
@@ -210,3 +213,37 @@ pub stands_at : (bs : List Brief) (all : List Case) (i : ℕ) (b : Brief) → Ar
     → (i < length bs) × ((d : Brief) → b ≡ get_or bs i d) → Stands bs all all i b
 stands_at bs all i b are stand (low, at) =
     stands_behind 0 bs all i b (omega arith) are stand (slice_get_read bs (length bs) i b refl low (at b))
+
+-- ---- an entry more, all of which is kept in one place
+
+-- it has no cases beside
+whole_beside : (e : Entry) (b : Brief) → IsWhole e b → cases_beside e b ≡ []
+whole_beside e (brief.Send pid p number) whole = refl
+whole_beside e (brief.Recv pid p) whole = refl
+whole_beside e (brief.Call pid default count first word) whole = absurd (omega (arith, (whole 0).begins, (whole 1).begins))
+whole_beside e (brief.Make pid cap) whole = refl
+whole_beside e (brief.Close pid p) whole = refl
+whole_beside e (brief.Exit pid) whole = refl
+whole_beside e (brief.Cancel pid q) whole = refl
+
+pub gains_whole : {bs more : List Brief} {cs : List Case} {b : Brief} (e : Entry) → AreBriefs bs cs → IsWhole e b → more ≡ bs ++ b ∷ []
+    → Gains bs more cs cs e
+gains_whole {bs} {more} {cs} {b} e are whole more_is =
+    gains e are refl (whole (length cs)) refl more_is (sym (whole_beside e b whole)) (omega arith) (sym (append-nil cs))
+
+-- a call whose cases stand beside
+pub gains_beside : {bs more : List Brief} {cs cs' ds : List Case} (e : Entry) (cases : ArrayVec Case) (default : Bool) (word first count : ℕ)
+    → AreBriefs bs cs → e.step ≡ Call cases default word → count ≡ length cases.items → first ≡ length cs
+    → more ≡ bs ++ brief.Call e.pid default count first word ∷ [] → ds ≡ cases.items → length ds ≤ CASE_PLACES → cs' ≡ cs ++ ds
+    → Gains bs more cs cs' e
+gains_beside {bs} {more} {cs} {cs'} {ds} e cases default word first count are is many behind more_is own few longer =
+    let b : Brief = brief.Call e.pid default count first word in
+    let kept : IsBriefOf e first b =
+    subst (λ (s : Step). IsBriefOf (record { pid = e.pid; step = s }) first b) (sym is) (record { again = refl; count = many; begins = refl }) in
+    gains e are refl kept behind more_is (own ∙ sym (ap (λ (s : Step). cases_or s []) is)) few longer
+
+-- the one case of a list that has no other
+pub only_case : (cases : List Case) (k : Case) → 1 ≤ length cases → length cases < 2 → k ≡ slice_index_or cases 0 k → k ∷ [] ≡ cases
+only_case [] k some few is = absurd (omega (arith, some))
+only_case (x ∷ []) k some few is = ap (λ (y : Case). y ∷ []) is
+only_case (x ∷ y ∷ cases) k some few is = absurd (omega (arith, few))

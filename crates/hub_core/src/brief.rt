@@ -68,7 +68,8 @@ fn brief_of_one(pid: Pid, case: Case) -> Option<Brief>
 }
 
 /// What is kept of a call, where that is all of it.
-fn brief_of_plain(pid: Pid, cases: &[Case], default: bool, word: u64) -> Option<Brief>
+#[inline(always)]
+fn brief_of_all(pid: Pid, cases: &[Case], default: bool, word: u64) -> Option<Brief>
     ensures { IfSome result (IsWhole (by pid.0 (call cases.now default word))) }
 {
     if cases.len() == 1 && !default && word == 0 {
@@ -78,12 +79,27 @@ fn brief_of_plain(pid: Pid, cases: &[Case], default: bool, word: u64) -> Option<
     }
 }
 
+/// What is kept of a plain send or receive, where that is all of it; `None` of any other entry.
+#[inline(always)]
+pub(crate) fn brief_of_plain(entry: &EntryRef<'_>) -> Option<Brief>
+    ensures { IfSome result (IsWhole entry.now) }
+{
+    match entry.step {
+        Step::Call {
+            ref cases,
+            default,
+            word,
+        } => brief_of_all(entry.pid, cases.as_slice(), default, word),
+        _ => None,
+    }
+}
+
 /// What is kept of a call whose cases, where they are not kept with it, begin there.
 fn brief_of_call(pid: Pid, cases: &[Case], default: bool, word: u64, first: u32) -> Brief
     requires { length cases.now ≤ CASE_PLACES }
     ensures { IsBriefOf (by pid.0 (call cases.now default word)) first result }
 {
-    match brief_of_plain(pid, cases, default, word) {
+    match brief_of_all(pid, cases, default, word) {
         Some(brief) => brief,
         None => Brief::Call {
             pid,

@@ -9,7 +9,9 @@ ghost use Rattle.std.specs.Prelude.{◌≡◌, ◌≤◌, ◌<◌, ◌+◌, ◌+
 ghost use Rattle.std.specs.Vec.{vec_capacity};
 ghost use Rattle.hub_core.specs.LogView.{FitsShort, HasRoomFor, places_asked};
 
-use crate::brief::{Brief, append_cases, brief_of, cases_beside, short_at, write_out};
+use crate::brief::{
+    Brief, append_cases, brief_of, brief_of_plain, cases_beside, short_at, write_out,
+};
 use hub_base::{Case, Entry, EntryRef, MOST_PROCS, Step};
 use std::alloc::{AllocError, Global};
 use std::marker::Model;
@@ -184,8 +186,96 @@ impl Log {
         ensures capacity { self.new.capacity ≡ self.old.capacity }
         ensures short { FitsShort self.old entry.now → self.new.short ≡ self.old.short + 1 }
     {
+        if !self.keeps_plain(entry) {
+            self.push_beside(entry);
+        }
+    }
+
+    /// The same of any entry. It stands in a function of its own, as does the next, so that a plain send or receive does not pay
+    /// for what it does not need.
+    #[inline(never)]
+    fn push_beside(&mut self, entry: &EntryRef<'_>)
+        requires room { length self.old.items < self.old.capacity }
+        ensures items { self.new.items ≡ self.old.items ++ entry.now ∷ [] }
+        ensures capacity { self.new.capacity ≡ self.old.capacity }
+        ensures short { FitsShort self.old entry.now → self.new.short ≡ self.old.short + 1 }
+    {
+        if !self.keeps_one(entry) {
+            self.push_any(entry);
+        }
+    }
+
+    /// The same.
+    #[inline(never)]
+    fn push_any(&mut self, entry: &EntryRef<'_>)
+        requires room { length self.old.items < self.old.capacity }
+        ensures items { self.new.items ≡ self.old.items ++ entry.now ∷ [] }
+        ensures capacity { self.new.capacity ≡ self.old.capacity }
+        ensures short { FitsShort self.old entry.now → self.new.short ≡ self.old.short + 1 }
+    {
         if !self.keeps_short(entry) {
             self.push_whole(entry);
+        }
+    }
+
+    /// Appends a call of one case, which stands beside, and keeps it short, if there are places enough. It asks for no memory.
+    #[inline(always)]
+    fn keeps_one(&mut self, entry: &EntryRef<'_>) -> bool
+        requires room { length self.old.items < self.old.capacity }
+        ensures items { result ≡ true → self.new.items ≡ self.old.items ++ entry.now ∷ [] }
+        ensures same { result ≡ false → self.new ≡ self.old }
+        ensures capacity { self.new.capacity ≡ self.old.capacity }
+        ensures short { result ≡ true → self.new.short ≡ self.old.short + 1 }
+    {
+        let Step::Call {
+            ref cases,
+            default,
+            word,
+        } = entry.step
+        else {
+            return false;
+        };
+        let [case] = cases.as_slice() else {
+            return false;
+        };
+        let Ok(first) = u32::try_from(self.cases.len()) else {
+            return false;
+        };
+        if self.briefs.capacity() - self.briefs.len() <= MOST_PROCS {
+            return false;
+        }
+        if self.cases.capacity() == self.cases.len() {
+            return false;
+        }
+        self.cases.push_reserved(*case);
+        self.briefs.push_reserved(Brief::Call {
+            pid: entry.pid,
+            default,
+            count: 1,
+            first,
+            word,
+        });
+        true
+    }
+
+    /// Appends a call of which all is kept in one place and keeps it so, if there are places enough. It asks for no memory.
+    #[inline(always)]
+    fn keeps_plain(&mut self, entry: &EntryRef<'_>) -> bool
+        requires room { length self.old.items < self.old.capacity }
+        ensures items { result ≡ true → self.new.items ≡ self.old.items ++ entry.now ∷ [] }
+        ensures same { result ≡ false → self.new ≡ self.old }
+        ensures capacity { self.new.capacity ≡ self.old.capacity }
+        ensures short { result ≡ true → self.new.short ≡ self.old.short + 1 }
+    {
+        if self.briefs.capacity() - self.briefs.len() <= MOST_PROCS {
+            return false;
+        }
+        match brief_of_plain(entry) {
+            None => false,
+            Some(brief) => {
+                self.briefs.push_reserved(brief);
+                true
+            }
         }
     }
 

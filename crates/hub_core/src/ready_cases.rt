@@ -9,7 +9,7 @@ ghost use Rattle.hub_core.specs.ListKeeps.{IsNamed};
 use hub_base::{CASE_PLACES, Case};
 use hub_parts::{Board, Side};
 
-/// Whether a case can proceed. Each question is asked, also those of the other side, which costs less than a branch.
+/// Whether a case can proceed. All of its side's questions are asked, which costs less than to stop at the first that decides.
 #[inline]
 pub(crate) fn can_proceed(board: &Board, case: &Case) -> bool
     requires { IsNamed board.now case.now }
@@ -19,11 +19,13 @@ pub(crate) fn can_proceed(board: &Board, case: &Case) -> bool
     if port.0 == 0 {
         return false;
     }
-    let sends = matches!(case, Case::Send(_, _));
     let len = board.len(port);
-    let can_send = board.waiting(port, Side::Recv) | (len < board.cap(port) as usize);
-    let can_recv = board.waiting(port, Side::Send) | (len > 0);
-    board.closed(port) | (sends & can_send) | (!sends & can_recv)
+    match case {
+        Case::Send(_, _) => {
+            board.closed(port) | board.waiting(port, Side::Recv) | (len < board.cap(port) as usize)
+        }
+        Case::Recv(_) => board.waiting(port, Side::Send) | (len > 0) | board.closed(port),
+    }
 }
 
 /// Puts the numbers of the cases that can proceed, in order, and tells how many they are. Each case's number is put,

@@ -2,3 +2,4 @@ pub mod Fitting
 pub mod Texts
 mod Values
 mod HubValues
+pub mod Asked

@@ -7,7 +7,9 @@ use Rattle.hub_base.specs.declared.limits.TheConstants.{CASE_PLACES, MOST_VALUE_
 use Rattle.hub_base.specs.declared.value.Value.{Value}
 use Rattle.hub_base.specs.Content.{Content, padded}
 use Rattle.hub_base.specs.Content.Content.{Num, Bytes}
+use Rattle.hub_base.specs.declared.head.Edition.{Edition}
 use Rattle.hub_base.specs.Entry.{Entry}
+use Rattle.hub_base.specs.Head.{has_case}
 use Rattle.hub_base.specs.Notation.{port, r, select}
 use Rattle.hub_base.specs.Value.{bytes_of, content, value_of}
 use Rattle.hub_c.specs.declared.structs.CaseC.{CaseC}
@@ -47,6 +49,14 @@ case_in c = if is_true c.sends then case.Send (port c.port) (value_in c.value) e
 -- no more cases than an entry has places for, and each of them a case
 abbrev pub are_cases : List CaseC → Bool
 are_cases cases = nat_le (length cases) CASE_PLACES && list_all is_case cases
+
+-- it is a case, and one that a journal of this edition can have
+abbrev pub suits : Edition → CaseC → Bool
+suits edition c = is_case c && has_case edition (case_in c)
+
+-- the cases of one call, and ones that a journal of this edition can have
+abbrev pub are_cases_of : Edition → List CaseC → Bool
+are_cases_of edition cases = nat_le (length cases) CASE_PLACES && list_all (suits edition) cases
 
 -- ---- entries
 -- a call of these cases, where they are some

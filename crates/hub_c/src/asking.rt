@@ -2,12 +2,14 @@
 
 ghost use Rattle.std.specs.Prelude.{◌≡◌, ◌≤◌, ◌<◌, ◌++◌, ◌∷◌, [], length, map, take};
 ghost use Rattle.std.specs.List.{list_all};
-ghost use Rattle.hub_base.specs.declared.limits.TheConstants.{CASE_PLACES};
-ghost use Rattle.hub_c.specs.Structs.{are_cases, case_in, is_case, is_true, is_value, value_in};
+ghost use Rattle.hub_base.specs.declared.limits.TheConstants.{CASE_PLACES, MOST_VALUE_BYTES};
+ghost use Rattle.hub_base.specs.Head.{has_value};
+ghost use Rattle.hub_base.specs.Value.{bytes_of};
+ghost use Rattle.hub_c.specs.Structs.{are_cases_of, case_in, is_case, is_true, is_value, suits, value_in};
 
 use crate::structs::{CaseC, ValueC};
 use arrayvec::ArrayVec;
-use hub_base::{CASE_PLACES, Case, MOST_VALUE_BYTES, Port, Value};
+use hub_base::{CASE_PLACES, Case, Edition, MOST_VALUE_BYTES, Port, Value};
 
 /// Whether a number that comes from C is true.
 #[inline(always)]
@@ -65,19 +67,45 @@ pub(crate) fn case_in(case: &CaseC) -> Case
     }
 }
 
-/// Whether each of them is a case.
+/// Whether a journal of this edition can have the value that is these bytes.
 #[inline(always)]
-fn all_cases(cases: &[CaseC]) -> bool
-    ensures { result ≡ list_all is_case cases.now }
+fn has_bytes(edition: Edition, bytes: &[u8]) -> bool
+    requires { length bytes.now ≤ MOST_VALUE_BYTES }
+    ensures { result ≡ has_value edition (bytes_of bytes.now) }
 {
-    cases.iter().all(|case| is_case(case))
+    edition.has_bytes()
 }
 
-/// Whether they are the cases of one call.
-pub(crate) fn are_cases(cases: &[CaseC]) -> bool
-    ensures { result ≡ are_cases cases.now }
+/// Whether it is a case, and one that a journal of this edition can have.
+#[inline(always)]
+fn suits(edition: Edition, case: &CaseC) -> bool
+    ensures { result ≡ suits edition case.now }
 {
-    cases.len() <= CASE_PLACES && all_cases(cases)
+    if !is_true(case.sends) {
+        return true;
+    }
+    if !is_true(case.value.is_bytes) {
+        // That every edition has numbers is told where one is made.
+        let _number = Value::num(case.value.number);
+        return is_value(&case.value);
+    }
+    is_value(&case.value) && has_bytes(edition, bytes_in(&case.value))
+}
+
+/// Whether each of them is.
+#[inline(always)]
+fn all_suit(edition: Edition, cases: &[CaseC]) -> bool
+    ensures { result ≡ list_all (suits edition) cases.now }
+{
+    cases.iter().all(|case| suits(edition, case))
+}
+
+/// Whether they are the cases of one call, and ones that a journal of this edition can have. Both is asked in one pass.
+#[inline(always)]
+pub(crate) fn are_cases_of(edition: Edition, cases: &[CaseC]) -> bool
+    ensures { result ≡ are_cases_of edition cases.now }
+{
+    cases.len() <= CASE_PLACES && all_suit(edition, cases)
 }
 
 /// Puts the case that a struct says behind those of a list with room for it. A receive is short: nothing stands in the place

@@ -2,6 +2,7 @@
 //! at entry for the size of its locals, and a call of many cases has room for them.
 
 ghost use Rattle.std.specs.Prelude.{◌≡◌, ◌≤◌, ◌∷◌, [], Some, false, length, true};
+ghost use Rattle.std.specs.List.{list_all};
 ghost use Rattle.hub_base.specs.Head.{has_case, is_of};
 ghost use Rattle.hub_base.specs.Lines.{by};
 ghost use Rattle.hub_base.specs.Notation.{recv, select, send};
@@ -13,7 +14,7 @@ ghost use Rattle.hub_c.specs.Steps.{Serves, ServesIn, ServesOpened, StepsIn, Ste
 ghost use Rattle.hub_c.specs.Structs.{call_of, is_true, send_of, value_in};
 ghost use Rattle.hub_c.specs.Tells.{bits_of};
 
-use crate::asking::{are_cases, case_in, is_case, is_true, is_value, put_cases, value_in};
+use crate::asking::{are_cases_of, case_in, is_case, is_true, is_value, put_cases, value_in};
 use crate::following::step_following;
 use crate::session::{Opened, Session};
 use crate::structs::{CaseC, ToldC, ValueC};
@@ -196,7 +197,7 @@ impl Session {
         }
     }
 
-    /// Makes a call of these cases, which stand in a list.
+    /// Makes a call of these cases, which stand in a list and which the hub's edition has.
     #[inline(always)]
     fn call_listed(
         &mut self,
@@ -206,14 +207,15 @@ impl Session {
         word: u64,
         told: &mut ToldC,
     )
-        ensures { StepsIn self.old (select pid word cases.entry.items (is_true default)) self.new told.new }
+        requires fits { list_all (has_case (head_in self.old.hub).edition) cases.items ≡ true }
+        ensures { ServesIn self.old (select pid word cases.entry.items (is_true default)) self.new told.new }
     {
         let step = Step::Call {
             cases,
             default: is_true(default),
             word,
         };
-        self.step(&entry_by(pid, step), told);
+        self.serve(&entry_by(pid, step), told);
     }
 
     /// Makes a call of so few cases that a short list has room for them: a list is filled when it is made.
@@ -222,7 +224,7 @@ impl Session {
         requires few { length cases.now ≤ FEW_CASES }
         ensures { StepsSaid self.old (call_of pid cases.now default word) self.new told.new }
     {
-        if !are_cases(cases) {
+        if !are_cases_of(self.hub.head().edition, cases) {
             tell_bad_call(told);
             return;
         }
@@ -236,7 +238,7 @@ impl Session {
     fn call_many(&mut self, pid: u8, cases: &[CaseC], default: u8, word: u64, told: &mut ToldC)
         ensures { StepsSaid self.old (call_of pid cases.now default word) self.new told.new }
     {
-        if !are_cases(cases) {
+        if !are_cases_of(self.hub.head().edition, cases) {
             tell_bad_call(told);
             return;
         }

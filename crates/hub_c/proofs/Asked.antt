@@ -1,0 +1,72 @@
+-- What is asked of cases that come from C, in one pass or in two.
+use Rattle.std.proofs.Common.{◌≡◌, ◌∙◌, ℕ, Bool, true, false, List, [], ◌∷◌, ap, refl, sym, length, map, take}
+use Rattle.std.specs.Prelude.{◌&&◌, nat_le}
+use Rattle.std.specs.List.{list_all}
+use Rattle.hub_base.specs.declared.limits.TheConstants.{CASE_PLACES}
+use Rattle.hub_base.specs.Value.{bytes_of}
+use Rattle.hub_base.specs.declared.head.Edition.{Edition}
+use Rattle.hub_base.specs.Head.{has_case, has_value}
+use Rattle.hub_base.specs.Notation.{select}
+use Rattle.hub_text.proofs.Numerals.{and-true}
+use Rattle.hub_c.specs.declared.session.Session.{Session}
+use Rattle.hub_c.specs.declared.structs.CaseC.{CaseC}
+use Rattle.hub_c.specs.declared.structs.ToldC.{ToldC}
+use Rattle.hub_c.specs.Hubs.{head_in}
+use Rattle.hub_c.specs.Steps.{ServesIn, StepsSaid}
+use Rattle.hub_c.specs.Structs.{are_cases, are_cases_of, call_of, case_in, is_case, is_true, is_value, suits}
+use Rattle.hub_c.specs.Tells.{bad_call}
+
+and_across : (x y a b : Bool) → ((x && y) && (a && b)) ≡ ((x && a) && (y && b))
+and_across true true a b = refl
+and_across true false true b = refl
+and_across true false false b = refl
+and_across false y a b = refl
+
+all_split : (edition : Edition) (cases : List CaseC)
+    → list_all (suits edition) cases ≡ (list_all is_case cases && list_all (has_case edition) (map case_in cases))
+all_split edition [] = refl
+all_split edition (c ∷ cases) =
+    ap (λ rest. suits edition c && rest) (all_split edition cases)
+    ∙ and_across (is_case c) (has_case edition (case_in c)) (list_all is_case cases) (list_all (has_case edition) (map case_in cases))
+
+-- both are asked of the cases of a call
+pub cases_split : (edition : Edition) (cases : List CaseC)
+    → are_cases_of edition cases ≡ (are_cases cases && list_all (has_case edition) (map case_in cases))
+cases_split edition cases =
+    ap (λ all. nat_le (length cases) CASE_PLACES && all) (all_split edition cases)
+    ∙ by (nat_le (length cases) CASE_PLACES) (list_all is_case cases) (list_all (has_case edition) (map case_in cases))
+  where
+    by : (x y z : Bool) → (x && (y && z)) ≡ ((x && y) && z)
+    by true y z = refl
+    by false y z = refl
+
+-- a hub of another edition, or cases that are none: nothing is done
+pub refused_so : (was : Session) (pid : ℕ) (cases : List CaseC) (default word : ℕ) (told : ToldC)
+    → are_cases_of (head_in was.hub).edition cases ≡ false → told ≡ bad_call → StepsSaid was (call_of pid cases default word) was told
+refused_so was pid cases default word told not_so is =
+    by (are_cases cases) (list_all (has_case (head_in was.hub).edition) (map case_in cases)) refl refl
+    (sym (cases_split (head_in was.hub).edition cases) ∙ not_so)
+  where
+    by : (one all : Bool) → are_cases cases ≡ one → list_all (has_case (head_in was.hub).edition) (map case_in cases) ≡ all
+        → (one && all) ≡ false → StepsSaid was (call_of pid cases default word) was told
+    by false all none others not_both = rw none (refl, is)
+    by true false one none not_both = rw (one, none) (refl, is)
+    by true true one all not_both = cc
+
+pub both_asked : (edition : Edition) (cases : List CaseC) → are_cases_of edition cases ≡ true
+    → (are_cases cases ≡ true) × (list_all (has_case edition) (map case_in cases) ≡ true)
+both_asked edition cases so =
+    and-true (are_cases cases) (list_all (has_case edition) (map case_in cases)) (sym (cases_split edition cases) ∙ so)
+
+-- a step that the hub's edition has
+pub served_so : (was now : Session) (pid : ℕ) (cases : List CaseC) (default word : ℕ) (told : ToldC)
+    → are_cases_of (head_in was.hub).edition cases ≡ true
+    → ServesIn was (select pid word (map case_in cases) (is_true default)) now told → StepsSaid was (call_of pid cases default word) now told
+served_so was now pid cases default word told so serves =
+    let both = both_asked (head_in was.hub).edition cases so in
+    rw (both.0, both.1) serves
+
+-- a case that sends bytes is one of each edition that has them
+pub suits_bytes : (edition : Edition) (c : CaseC) (bytes : List ℕ) → is_true c.sends ≡ true → is_true c.value.is_bytes ≡ true
+    → is_value c.value ≡ true → bytes ≡ take c.value.length c.value.bytes → has_value edition (bytes_of bytes) ≡ suits edition c
+suits_bytes edition c bytes sends is few read = rw (sends, is, few) (ap (λ (bs : List ℕ). has_value edition (bytes_of bs)) read)

@@ -280,7 +280,8 @@ chanhub_value chanhub_number(uint64_t number) {
 
 chanhub_value chanhub_bytes(const void *bytes, size_t length) {
     chanhub_value value = { .is_bytes = true, .length = (uint8_t)(length > MOST_BYTES ? MOST_BYTES + 1 : length) };
-    if (length && length <= MOST_BYTES) memcpy(value.bytes, bytes, length);
+    if (length == MOST_BYTES) memcpy(value.bytes, bytes, MOST_BYTES); /* of a known length, so without a call */
+    else if (length && length < MOST_BYTES) memcpy(value.bytes, bytes, length);
     return value;
 }
 

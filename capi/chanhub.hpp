@@ -178,7 +178,8 @@ struct chanhub::Told {
 class chanhub::Error : public std::runtime_error {
 public:
     explicit Error(int opening, std::uint32_t line = 0)
-        : std::runtime_error(std::string("chanhub: ") + chanhub_strerror(opening) + (line ? ", in line " + std::to_string(line) : "")),
+        : std::runtime_error(std::string("chanhub: ") + chanhub_strerror(opening) +
+                             (line ? ", in line " + std::to_string(line) : "")),
           opening_(opening) {}
     explicit Error(const Told &told) : std::runtime_error("chanhub: " + told.text()), told_(told) {}
 

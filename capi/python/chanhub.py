@@ -62,8 +62,10 @@ A hub can follow a journal, so that a run is repeated exactly as it was:
 If the journal's hub had timeouts, each call times out, or is answered, as it was there, however long that takes.
 
 Ctrl-C interrupts a wait of the main thread with KeyboardInterrupt. Nothing is lost: the call stays open, `seat.waits` is true, and
-`seat.resume()` resumes the wait. (Before Python 3.10, an answer that comes just then may be lost on its way to the caller.) When a `with Hub` block ends, no new call begins, and each waiting call ends. A hub belongs to the
-operating-system process that opened it: in a forked child, every call on it raises RuntimeError.
+`seat.resume()` resumes the wait. (Before Python 3.10, an answer that comes just then may be lost on its way to the caller.)
+
+When a `with Hub` block ends, no new call begins, and each waiting call ends. A hub belongs to the operating-system process that
+opened it: in a forked child, every call on it raises RuntimeError.
 """
 from __future__ import annotations
 
@@ -250,8 +252,8 @@ def _library() -> ctypes.CDLL:
     try:
         library = ctypes.CDLL(path)
     except OSError as error:
-        raise ImportError(f'{error}\nBuild the library, by `make -C capi` at the top of chanhub\'s repository, or install it where the '
-                          f'loader looks,\nor have CHANHUB_LIBRARY name the file libchanhub.so.') from None
+        raise ImportError(f'{error}\nBuild the library, by `make -C capi` at the top of chanhub\'s repository, or install it '
+                          f'where the loader looks,\nor have CHANHUB_LIBRARY name the file libchanhub.so.') from None
     hub, number, size = ctypes.c_void_p, ctypes.c_uint, ctypes.POINTER(ctypes.c_size_t)
     for name, result, arguments in (
             ('open', ctypes.c_int, [ctypes.POINTER(hub), number, number, ctypes.c_uint32]),
@@ -283,8 +285,8 @@ def _library() -> ctypes.CDLL:
 
 def _quick_type() -> Any:
     """Loads chanhub_calls.c, by which a send or a receive that need not wait takes a third of the time, and returns its type. Returns None
-    if it was not built, if this Python cannot load it, or if CHANHUB_CALLS says `ctypes`. Also before Python 3.10, where an exception of
-    a signal handler may come between a subscript and its store, so that an answer would be lost."""
+    if it was not built, if this Python cannot load it, or if CHANHUB_CALLS says `ctypes`. Also before Python 3.10, where an
+    exception of a signal handler may come between a subscript and its store, so that an answer would be lost."""
     here = os.path.dirname(os.path.abspath(__file__))
     places = [os.path.join(folder, 'chanhub_calls.abi3.so') for folder in (here, os.path.join(here, '..', 'out'))]
     path = next(filter(os.path.exists, places), None)
@@ -529,8 +531,8 @@ class _ToFunction(_To):
             self._function = _ignore
 
     def _give_all(self) -> None:
-        """Gives all chapters that are left. It is a function, since in Python 3.13 a `with` misses an exception between two rounds of a
-        loop in it, and the lock would stay held."""
+        """Gives all chapters that are left. It is a function, since in Python 3.13 a `with` misses an exception between two
+        rounds of a loop in it, and the lock would stay held."""
         while self._give_one():
             pass
 
@@ -925,7 +927,8 @@ class Hub:
         self._give_fallen()
 
     def _exit_repeatedly(self) -> List[_Told]:
-        """Exits each process that is not waiting, until none exits. Returns the last answers. It is a function as `_give_all` is."""
+        """Exits each process that is not waiting, until none exits. Returns the last answers. It is a function for the reason
+        that `_give_all` is."""
         told = self._exit_all()
         while any(each.what == DONE for each in told):
             told = self._exit_all()

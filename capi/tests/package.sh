@@ -1,8 +1,8 @@
 #!/bin/sh
 # package.sh: installs the library of out/, as it is, into a folder of its own, and uses it as others would: by pkg-config and by
-# CMake, each over the shared and the static library. Installs stand-ins for the programs. Reads the manual pages, builds the example
-# of chanhub.3, installs the Python package by pip, lists the Rust package, and uninstalls. Prints nothing if all is well, but what is
-# skipped, and why: what needs a command that the machine lacks.
+# CMake, each over the shared and the static library. Installs stand-ins for the programs. Reads the manual pages, builds the
+# example of chanhub.3, installs the Python package by pip, lists the Rust package, and uninstalls. Prints nothing if all is well,
+# but what is skipped, and why: what needs a command that the machine lacks.
 set -eu
 cd "$(dirname "$0")/.."
 cc=${CC:-cc}

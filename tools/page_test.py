@@ -16,6 +16,7 @@ one, and prints how long they took to open and to move, and their bytes a step. 
 import collections
 import fcntl
 import json
+import math
 import os
 import pathlib
 import random
@@ -403,7 +404,8 @@ def bars_of(drawn, asked, first, end, left):
     for one in asked:
         until = len(asked) if one.ended is None else one.ended.by
         if one.place < until and one.place < end and until >= first:
-            yield one, max(left, drawn.x(one.place)), min(edge, drawn.x(until)), drawn.pid(one.line)
+            begin = max(left, drawn.x(one.place))
+            yield one, begin, max(begin, min(edge, drawn.x(until))), drawn.pid(one.line)
 
 
 def levels_of(drawn, journal, first, end):
@@ -480,9 +482,16 @@ def check_canvas(drawn, journal, first, end):
     agree("level", [(float(x), float(x + w), drawn.port(y + h - 8), float(h)) for x, y, w, h in levels], list(levels_of(drawn, journal, first, end)), 0.6)
 
 
+def in_view(drawn, count):
+    """The first step whose column reaches between the lanes' names and the right edge, by the axis, and the one behind the last."""
+    first, end = (round((x - drawn.zero) / drawn.dots - 0.5, 6) for x in (64, drawn.width))
+    return math.floor(first), min(count, math.ceil(end))
+
+
 def drawn_at(browser, journal, first, steps):
     browser.value(f"page.view.show({first}, {steps}); window.drawn = []; page.paint()")
-    return Drawn(browser, journal.procs), browser.value("page.view.range()")
+    drawn = Drawn(browser, journal.procs)
+    return drawn, in_view(drawn, len(journal.lines))
 
 
 TOOLS = []  # the program that writes pages, if one is given
@@ -551,8 +560,9 @@ def check_long(browser, count, work, seed, total):
     journal = picture.Journal(text.encode())
     open_page(browser, text, work / "random.html")
     draw = random.Random(seed).randrange
-    for steps in (total, 900, 450, 100, 100, 30, 30):
-        first = draw(total - steps + 1)
+    places = [(steps, draw(total - steps + 1)) for steps in (total, 900, 450, 100, 100, 30, 30)]
+    places += [(60, at * BLOCK - back) for at, back in zip(range(3, total // BLOCK, 4), (60, 58, 57, 30, 2, 0) * 9)]  # round blocks' ends
+    for steps, first in places:
 
         def test():
             drawn, at = drawn_at(browser, journal, first, steps)
@@ -1287,8 +1297,8 @@ def check_million(browser, count, work):
         calls = [Call(*call) for call in browser.value("window.drawn") if call[0] == "far" and call[1] == "fillRect"]
         blue = browser.value("((pen) => (pen.fillStyle = page.painter.colour('h1'), pen.fillStyle))(document.createElement('canvas').getContext('2d'))")
         waits = sum(call.words[2] * call.words[3] for call in calls if call.fill == blue)
-        height = browser.value("page.view.place.get(0).height") - 2
-        whole = waits / ((browser.value("page.view.width") - 108) * height * 0.8)
+        height, width = browser.value("page.view.place.get(0).height") - 2, browser.value("page.view.width") - 64
+        whole = waits / ((width if share < 1 else width - 44) * height * 0.8)
         count.test(f"process 0 waits half of the time, in {share} of them: {whole:.3f}", abs(whole - 0.5) < 0.02)
     check_strip(browser, count, steps)
 

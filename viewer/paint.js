@@ -104,7 +104,7 @@ class Painter {
         for (const { class: signs, x, y, width, height } of shapes) this.fill(colourOf(signs), x, y, width, height);
     }
     paintCounts() {  // in columns of dots: waits as a band as high as their share, steps as a thinner one on it, troubles
-        const { view, journal } = this, width = Math.floor(view.width - LEFT - RIGHT), scale = view.steps / width;
+        const { view, journal } = this, width = Math.floor(Math.min(view.width, view.x(journal.steps - 0.5)) - LEFT), scale = 1 / view.dots;
         const edge = (column) => Math.min(journal.steps, view.first + column * scale);
         const bands = [["waited", "h1", 0.8], ["asked", "edge", 1.2], ["troubles", "trouble", Infinity]];
         for (const [name, colour, weight] of bands) for (const [pid, { y, height }] of view.place) {

@@ -14,7 +14,7 @@ class View {
     get boxWidth() { return Math.min(66, Math.max(1, this.dots * 0.9)); }
     x(step) { return LEFT + (step + 0.5 - this.first) * this.dots; }
     stepAt(x) { return Math.floor(this.first + (x - LEFT) / this.dots); }
-    range() { return [Math.floor(this.first), Math.min(this.journal.steps, Math.ceil(this.first + this.steps))]; }
+    range() { return [Math.floor(this.first), Math.min(this.journal.steps, Math.ceil(this.first + (this.width - LEFT) / this.dots))]; }  // to the edge
     isShown(...steps) { return steps.every((step) => this.place.has(step.lane)); }
     strips() { return [...this.ports].sort((one, other) => one - other); }
     floor(row) { return this.stripTop + (row + 1) * STRIP - 4; }
@@ -54,9 +54,9 @@ class View {
         return [...new Set(receivers)].map((place) => this.journal.step(place)).filter((to) => to && this.isShown(to, to.sender));
     }
     levels() {  // what ports hold as far as it can be seen: each count from one step until another
-        const { journal } = this, [first, last] = this.range(), end = Math.min(journal.steps, this.stepAt(this.width) + 2), at = journal.blockAt(first);
+        const { journal } = this, [first, last] = this.range(), end = Math.min(journal.steps, last + 1), at = journal.blockAt(first);
         const told = new Map(this.strips().map((port) => [port, [{ port, from: at * BLOCK - 1, count: journal.levelBefore(at, port) }]]));
-        for (const level of numbers(at, Math.ceil(Math.max(end, last) / BLOCK)).flatMap((at) => journal.block(at).levels))
+        for (const level of numbers(at, Math.ceil(end / BLOCK)).flatMap((at) => journal.block(at).levels))
             if (level.count !== told.get(level.port)?.at(-1).count) told.get(level.port)?.push(level);
         const levels = [...told.values()].flatMap((own, row) => own.map((level, at) => ({ ...level, row, until: own[at + 1]?.from ?? Math.max(end, first) })));
         return levels.filter((level) => level.count && level.until >= first && level.from < last);

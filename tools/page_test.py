@@ -315,7 +315,8 @@ def waits_told(journal):
     waits = [((one.ended.by if one.ended else len(asked) - 1) - one.place, one) for one in asked
         if one.ended is None or one.ended.by > one.place]
     for steps, one in sorted(waits, key=lambda wait: (-wait[0], wait[1].place)):
-        until = f"P{pid_at(journal, one.ended.by)}, step {one.ended.by + 1}" if one.ended else "the end"
+        ender = "the deadlock at" if words_of(one) == "stalled" else f"P{pid_at(journal, one.ended.by)}," if one.ended else ""
+        until = f"{ender} step {one.ended.by + 1}" if one.ended else "the end"
         yield [str(steps), f"P{pid_at(journal, one.place)}, step {one.place + 1} {one.line} {answer_of(one)}", until]
 
 
@@ -810,6 +811,8 @@ def check_search(browser, journal):
         "port 2": lambda one: 2 in port_of(one),
         "=" + value: lambda one: value_of(one) == value,
         "stalled": lambda one: words_of(one) == "stalled",
+        "deadlocks": lambda one: words_of(one) == "stalled",
+        "P1 before 60": lambda one: int(one.line.split()[0]) == 1 and one.place < 59,
         "cancelled": lambda one: words_of(one) == "cancelled",
         "step 60": lambda one: one.place == 59,
         "waited": lambda one: one.ended is None or one.ended.by > one.place,
@@ -992,8 +995,9 @@ def check_follow(browser, count, path):
     """The value 120 goes through three ports: it is followed by keys, by an arrow that is clicked, and by a link in the panel."""
     first = STEPS_OF[120]
     ways = list(range(first, first + 6))
-    stages = [f"port {port}: sent by P{port - 1}, step {first + 1 + sent}, got by P{port}, step {first + 1 + got}"
-        for port, sent, got in ((1, 1, 0), (2, 2, 3), (3, 4, 5))]
+    stages = [f"port 1: sent by P0, step {first + 2}, got by P1, step {first + 1}, waiting until {first + 2}",
+        f"port 2: sent by P1, step {first + 3}, got by P2, step {first + 4}; 1 step in the port",
+        f"port 3: sent by P2, step {first + 5}, waiting until {first + 6}, got by P3, step {first + 6}"]
     in_order = [first + at for at in (1, 0, 2, 3, 4, 5)]
     browser.open(path, f"#step={first + 3}")
     browser.key("f")
@@ -1012,8 +1016,17 @@ def check_follow(browser, count, path):
     clear = "[...document.querySelectorAll('#lanes .box')].filter((box) => getComputedStyle(box).opacity === '1')"
     pale = browser.value(clear + ".map((box) => Number(box.dataset.link.slice(5)) - 1)")
     count.test("all else is paler", sorted(pale) == ways, pale)
+    own = texts(browser, "#moves .fired")
+    count.test("the chosen step's move is marked", own == stages[:1], own)
+    browser.key("k")
+    left = browser.value(f"[{clear}.length === document.querySelectorAll('#lanes .box').length, page.words]"), texts(browser, "#moves li")
+    count.test("a step that is not on the way is not mixed with it", left == ([True, f"way {first + 3}"], []), left)
+    browser.key("j")
+    browser.key("f")
+    ended = browser.value("[page.words, page.found.length, document.getElementById('find').value]"), texts(browser, "#moves li")
+    count.test("f ends the following", ended == (["", 0, ""], []), ended)
     browser.key("Escape")
-    browser.value(f"page.find(''); page.view.show({first - 4}, 14); page.draw()")
+    browser.value(f"page.view.show({first - 4}, 14); page.draw()")
     browser.settle()
     (x, y), (toX, toY) = at(browser, first + 5, 2), at(browser, first + 5, 3)
     browser.mouse((x + toX) / 2, (y + toY) / 2, "mouseMoved", "mousePressed", "mouseReleased")
@@ -1053,6 +1066,10 @@ def check_mouse(browser, count, path):
     browser.mouse(x, y, "mouseMoved", "mousePressed", "mouseReleased")
     middle = browser.value("(page.view.first + page.view.steps / 2) / page.journal.steps")
     count.test("a click on the strip goes there", abs(middle - 0.75) < 0.02, middle)
+    browser.key("0")
+    browser.mouse(x, y, "mouseMoved", "mousePressed", "mouseReleased")
+    near = browser.value("[page.view.steps, (page.view.first + page.view.steps / 2) / page.journal.steps]")
+    count.test("and near, if all was in view", near[0] == 60 and abs(near[1] - 0.75) < 0.02, near)
 
 
 def check_lanes(browser, count, path):
@@ -1124,6 +1141,8 @@ def check_keys(browser, count, path):
     count.test("< goes to the first one", at_count() == "1 of 6" and title(browser) == f"Step {STEPS_OF[120] + 1} of P1",
         (at_count(), title(browser)))
     browser.key("/")
+    marked = browser.value("(({ value, selectionStart, selectionEnd }) => value.slice(selectionStart, selectionEnd))(document.activeElement)")
+    count.test("/ selects what was typed", marked == "=120", marked)
     browser.key("Enter")
     count.test("Enter in the field, too, if it says the same", at_count() == "2 of 6", at_count())
     browser.key("p")
@@ -1186,8 +1205,10 @@ def check_find(browser, count):
     told = look("=99")
     panel = browser.value("((none) => none.checkVisibility() && none.textContent)(document.getElementById('none'))")
     count.test("the panel says that nothing is found", told[0] == "none"
-        and panel == "Nothing is found by =99. What was chosen stays:", (told, panel))
+        and panel == "Nothing is found by =99. P3, port 2, =17, stalled, step 60 would be; Help lists all words. What was chosen stays:",
+        (told, panel))
     browser.key("Escape")
+    count.test("Escape ends a search", browser.value("[page.words, document.getElementById('find').value]") == ["", ""])
     count.test("Escape works after a search", title(browser) == "The whole", title(browser))
     look("=120")
     count.test("and then it says so no more", not browser.value("document.getElementById('none').checkVisibility()"))
@@ -1328,6 +1349,10 @@ def check_stall_marks(browser, count, work):
     told = browser.value("[...document.querySelectorAll('#whole li')].map((one) => one.textContent)")
     wanted = [f"step {by + 1} stalls {', '.join(pids)}" for by, pids in stalls.items()]
     count.test("the panel tells whom they stall", told == wanted, (told, wanted))
+    by, _, asked = journal.stalls[0]
+    browser.value(f"page.choose({asked})")
+    told, wanted = texts(browser, "#waited"), [f"{by - asked} steps; ended by the deadlock at step {by + 1}"]
+    count.test("a deadlock ends a wait, and not who waited last", told == wanted, (told, wanted))
 
 
 def check_viewer(count):

@@ -32,17 +32,14 @@ class Painter {
     }
     shapes() {
         const { view } = this, stalls = this.journal.stallsOf(...view.range()), rect = (shape, { title } = shape) => node("rect", { ...shape, title });
-        return [
-            ...stalls.flatMap((stall) => this.fields(stall)).map((field) => rect(field)), ...view.levels().map((level) => rect(this.level(level))),
+        return [...stalls.flatMap((stall) => this.fields(stall)).map((field) => rect(field)), ...view.levels().map((level) => rect(this.level(level))),
             ...view.arrows().flatMap((to) => this.arrow(to)), ...view.bars().flatMap((call) => [rect(this.bar(call), call), this.knob(call)]),
-            ...view.boxes().flatMap((step) => [rect(this.box(step), step), this.label(step)]), ...stalls.flatMap((stall) => this.guesses(stall)),
-        ];
+            ...view.boxes().flatMap((step) => [rect(this.box(step), step), this.label(step)]), ...stalls.flatMap((stall) => this.guesses(stall))];
     }
     signs(step) {  // the signs of a step that its shapes share
         const { place, port, end, shown: { side } } = step, { page } = this;
-        const signs = [hueOf(port), side, page.marks.has(place) && "found", place === page.chosen?.place && "chosen", step.isTrouble && "trouble",
-            { "": "open", d: "drained", x: "cancelled" }[end.letter], "mc".includes(step.letter) && "thick"];
-        return signs.filter(Boolean).join(" ");
+        return [hueOf(port), side, page.marks.has(place) && "found", place === page.chosen?.place && "chosen", step.isTrouble && "trouble",
+            { "": "open", d: "drained", x: "cancelled" }[end.letter], "mc".includes(step.letter) && "thick"].filter(Boolean).join(" ");
     }
     fields({ place, calls }) {
         const { view } = this, width = Math.max(3, view.dots), places = calls.map((call) => view.place.get(this.journal.step(call).lane));
@@ -124,11 +121,11 @@ class Painter {
         }
     }
     paintAxis(canvas) {
-        const { view } = this, [first, end] = view.range(), least = (26 + 6 * String(end).length) / view.dots;
+        const { view } = this, [, end] = view.range(), least = (26 + 6 * String(end).length) / view.dots;
         const power = 10 ** Math.max(0, Math.floor(Math.log10(least))), every = power * [1, 2, 5, 10].find((times) => times * power >= least);
         this.begin(canvas, view.width, AXIS);
         Object.assign(this.pen, { textAlign: "center", fillStyle: this.colour("dim") }).fillText("step", LEFT - 36, 14);
-        for (let step = Math.ceil((first + 1) / every) * every; step <= end; step += every) this.pen.fillText(step, view.x(step - 1), 14);
+        for (let step = Math.ceil(Math.max(1, view.first + 0.5) / every) * every; step <= end; step += every) this.pen.fillText(step, view.x(step - 1), 14);
     }
     paintWhole(canvas, found) {  // of few steps each call is counted, since a block is wide there
         const { journal } = this, { procs, stalls } = journal, count = Math.max(1, journal.steps), width = canvas.parentElement.clientWidth;

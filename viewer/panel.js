@@ -9,6 +9,9 @@ const items = (texts) => texts.map((text) => html`<li>${text}</li>`);
 const rowsOf = (rows) => rows.map((row) => html`<tr>${row.map((cell) => html`<td>${cell}</td>`)}</tr>`);
 const stepLink = (place) => `step=${place + 1}`, wayLink = ({ place }) => `${stepLink(place)}&find=way ${place + 1}`;
 const link = (place, words = `step ${place + 1}`) => html`<a href="#${stepLink(place)}">${words}</a>`;
+const when = (step) => html`${who(step)}${step.waits && html`, waiting until ${link(step.end.by, step.end.by + 1)}`}`;
+const lay = ({ sender, receiver }) => (receiver.end.by > sender.end.by ? `; ${counted(receiver.end.by - sender.end.by, "step")} in the port` : "");
+const ender = (step) => (step.endsBy("S") ? html`the deadlock at ${link(step.end.by)}` : who(step.journal.step(step.end.by)));
 const who = (step) => (step ? html`P${step.pid}, ${link(step.place)}` : "nobody");
 const called = (step, number, answer = step.answer) => html`${number} <code>${step.line}</code> <span class="dim">${answer}</span>`;
 const sendText = (port, value) => (value === undefined ? `receive from port ${port}` : `send ${readable(value)} on port ${port}`);
@@ -16,13 +19,13 @@ const caseText = (text) => sendText(...text.slice(1).split(":"));
 function tellStep(step, page) {
     const { place, end, cases, partner, value } = step, { journal } = page, fired = step.endsBy("sgdc") ? end.number : -1;
     const ended = journal.endsOf(place, place + 1).filter((call) => call.place < place && !call.endsBy("S"));
-    const moved = partner ? html`${step.endsBy("g") ? "from" : "to"} ${who(partner)}` : `stays in port ${step.port}`;
+    const moved = partner ? html`${step.endsBy("g") ? "from" : "to"} ${when(partner)}${lay(step)}` : `stays in port ${step.port}`;
     const [before, after] = [-1, 1].map((way) => journal.stepsOfProcess(step, way).next().value).map((own) => (own ? link(own.place) : "none"));
     const short = (one) => called(one, link(one.place, one.place + 1), one.end.by < place ? one.answer : "waits");  // told by then
     put({
         name: `Step ${place + 1} of P${step.pid}`, line: step.line, number: `line ${place + 3} of the journal`,
         answer: html`<b class="${step.isTrouble ? "trouble" : ""}">${step.answer}</b>`,
-        waited: step.waits && html`${counted(step.waited, "step")}${end.letter && html`; ended by ${who(journal.step(end.by))}`}`,
+        waited: step.waits && html`${counted(step.waited, "step")}${end.letter && html`; ended by ${ender(step)}`}`,
         value: value !== null && html`<b>${readable(value)}</b> ${moved}<br><a href="#${wayLink(step)}">Follow it</a>`,
         cases: items((cases.length > 1 ? cases : []).map((text, at) => html`<span class="${at === fired ? "fired" : ""}">${caseText(text)}</span>`)),
         ended: items(ended.map((call) => html`the wait of ${who(call)}`)), process: html`P${step.pid}: ${before} before, ${after} after`,
@@ -31,12 +34,13 @@ function tellStep(step, page) {
     });
 }
 function movesText(place, { journal, found, words, isFollowing }) {  // those found near a step, each from its sender on
-    const own = found.indexOf(place), at = own < 0 ? found.findLastIndex((one) => one <= place) : own;
+    const at = found.indexOf(place), isOwn = (send) => [send, send.receiver].some((one) => one?.place === place);
     const near = isFollowing ? found.slice(Math.max(0, at - 20), at + 21).map((one) => journal.step(one)) : [];
     const sends = [...new Set(near.map((one) => one.sender.place))].map((one) => journal.step(one));
-    const end = ({ receiver }) => (receiver ? html`got by ${who(receiver)}` : "stays there"), isWay = words[0] !== "=";
+    const end = (send) => (send.receiver ? html`got by ${when(send.receiver)}${lay(send)}` : "stays there"), isWay = words[0] !== "=";
+    const text = (send) => html`port ${send.port}: sent by ${when(send)}, ${end(send)}`;
     const way = `${isWay ? "The way" : "Moves"} of ${readable(near[0]?.value)}: ${near.length} of ${counted(found.length, "move")}`;
-    return { way, moves: items(sends.map((send) => html`port ${send.port}: sent by ${who(send)}, ${end(send)}`)) };
+    return { way, moves: items(sends.map((send) => html`<span class="${isOwn(send) && "fired"}">${text(send)}</span>`)) };
 }
 function stallText(stall, journal) {  // what full ports hold, who waits, with guesses for whom, and who was there last
     const cases = journal.casesOf(stall), mover = (place) => who(place !== null && journal.step(place));
@@ -54,7 +58,7 @@ function tellWhole(journal, story) {  // of deadlocks the first and the last fou
     const stalled = (place) => html`${link(place)} stalls ${journal.stallAt(place).calls.map((call) => `P${journal.step(call).pid}`).join(", ")}`;
     const gap = left > 0 ? [html`and <a href="#find=stalled">${left} more</a>, then`] : [];
     const longest = [...story.matchAll(/^ *(\d+) +P/gm)].map(([, step]) => journal.step(step - 1)), least = longest.at(-1)?.waited;
-    const ties = longest.filter(({ waited }) => waited === least).length, until = ({ end }) => (end.letter ? who(journal.step(end.by)) : "the end");
+    const ties = longest.filter(({ waited }) => waited === least).length, until = (step) => (step.end.letter ? ender(step) : "the end");
     const shownAs = (lane) => html`<select data-process="${lane}" aria-label="${lane} shown as">${{ html: byId("forms").innerHTML }}</select>`;
     const exit = (lane) => exits[lane] !== null && link(exits[lane]), name = (lane) => (lane < procs ? `P${lane}` : "unknown");
     const box = (port) => html`<label><input type="checkbox" data-port="${port}" ${rooms[port - 1] > 0 && "checked"}> port ${port}</label> `;

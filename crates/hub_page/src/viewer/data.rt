@@ -158,14 +158,11 @@ pub(super) const SECOND: &[u8] =
         });
     }
     mostOf(port, first, end) {
-        let most = 0;
-        for (let at = this.blockAt(first); at * BLOCK < end; at++) most = Math.max(most, this.most[(at + 1) * this.width + port]);
-        return most;
+        return numbers(this.blockAt(first), Math.ceil(end / BLOCK)).reduce((most, at) => Math.max(most, this.most[(at + 1) * this.width + port]), 0);
     }
     stepsOfProcess({ place, pid, lane }, direction) {  // behind a step (1) or before it (-1), the nearest first
-        const blocks = this.blocksWith(this.asked, this.lanes, lane, this.blockAt(place), direction);
-        const steps = blocks.flatMap(({ steps }) => (direction > 0 ? steps : steps.toReversed()));
-        return steps.filter((step) => step.pid === pid && (step.place - place) * direction > 0);
+        return this.blocksWith(this.asked, this.lanes, lane, this.blockAt(place), direction)
+            .flatMap(({ steps }) => (direction > 0 ? steps : steps.toReversed())).filter((step) => step.pid === pid && (step.place - place) * direction > 0);
     }
     *wayOf(sender) {  // who sends what it got, before it gets another, passes it on
         const near = (step, direction) => this.stepsOfProcess(step, direction).take(MOST_OWN), { value } = sender;
@@ -193,5 +190,13 @@ function readable(value) {  // bytes as text where they are UTF-8 without contro
     const bytes = Uint8Array.from(value.slice(1).match(/../g) ?? [], (two) => parseInt(two, 16));
     const text = new TextDecoder(\"utf-8\", { ignoreBOM: true }).decode(bytes);
     return /[\\p{C}\\p{Zl}\\p{Zp}\\ufffd]/u.test(text) ? value : `\\u201c${text}\\u201d`;
+}
+function testOf(word) {  // of what is typed in Find: whether a step is meant
+    const [, kind, digits] = /^(P|step |before |waited |port )(\\d+)$/i.exec(word) ?? [], number = Number(digits), text = word.slice(1);
+    if (word[0] === \"=\") return ({ value }) => value === text || value?.[0] === \"#\" && readable(value) === `\\u201c${text}\\u201d`;
+    const asked = /^deadlocks?$/i.test(word) ? \"stalled\" : word, end = Object.keys(ENDS).find((letter) => ENDS[letter] === asked);
+    const numbered = { p: ({ pid }) => pid === number, step: ({ place }) => place === number - 1, before: ({ place }) => place < number - 1,
+        port: ({ ports }) => ports.includes(number), waited: (step) => step.waits && step.waited === number };
+    return numbered[kind?.trim().toLowerCase()] ?? (end ? (step) => step.end.letter === end : (step) => step.title.includes(word));
 }
 ";

@@ -2,7 +2,7 @@
 
 pub(super) const TEXT: &[u8] =
     b"// The page: what is chosen, and what search, links, wheel, mouse and keys do.
-const byId = (id) => document.getElementById(id), ENDMOST = [\"first\", \"last\"];
+const byId = (id) => document.getElementById(id), ENDMOST = [\"first\", \"last\"], KNOWN = `${byId(\"find\").placeholder} would be; Help lists all words.`;
 class Page {
     constructor(journal, story) {
         const view = new View(journal, () => this.draw());
@@ -11,13 +11,12 @@ class Page {
         Object.assign(this, { journal, view, painter: new Painter(this, view, journal), chosen: null, words: \"\", found: [], marks: new Set(), dragged: 0 });
         this.keys = {
             ArrowLeft: () => view.pan(-view.steps / 8), ArrowRight: () => view.pan(view.steps / 8), 0: () => view.show(0, journal.steps),
-            Home: () => view.show(0, view.steps), End: () => view.show(journal.steps, view.steps), Escape: () => this.choose(null),
-            \"+\": () => view.zoom(0.7), \"-\": () => view.zoom(1 / 0.7), \"/\": () => byId(\"find\").focus(), \"?\": () => byId(\"help\").showModal(),
+            Home: () => view.show(0, view.steps), End: () => view.show(journal.steps, view.steps), Escape: () => [this.endFind(), this.choose(null)],
+            \"+\": () => view.zoom(0.7), \"-\": () => view.zoom(1 / 0.7), \"/\": () => [byId(\"find\").focus(), byId(\"find\").select()],
+            \"?\": () => byId(\"help\").showModal(), g: () => this.choose(this.chosen?.partner?.place), w: () => this.choose(this.chosen?.end.by),
             j: () => this.choose(this.chosen ? this.chosen.place + 1 : Math.ceil(view.first)), k: () => this.choose(this.chosen?.place - 1),
-            J: () => this.choose(ownStep(1)), K: () => this.choose(ownStep(-1)), w: () => this.choose(this.chosen?.end.by),
-            g: () => this.choose(this.chosen?.partner?.place), f: () => this.chosen?.value && location.assign(`#${wayLink(this.chosen)}`),
-            n: () => this.goFound(1), p: () => this.goFound(-1), Enter: () => this.goFound(1),
-            \"<\": () => this.goFound(0, null), \">\": () => this.goFound(-1, null),
+            J: () => this.choose(ownStep(1)), K: () => this.choose(ownStep(-1)), f: () => this.follow(), Enter: () => this.goFound(1),
+            n: () => this.goFound(1), p: () => this.goFound(-1), \"<\": () => this.goFound(0, null), \">\": () => this.goFound(-1, null),
         };
         document.title = byId(\"journal\").textContent = location.pathname.split(\"/\").pop().replace(/\\.html$/, \"\").replace(/%../g, \"_\");
         new ResizeObserver(() => this.layOut()).observe(byId(\"scroll\"));
@@ -43,8 +42,7 @@ class Page {
     choose(place) {  // chooses the step at a place if it is there, or none
         if (place !== null && !(place >= 0 && place < this.journal.steps)) return;
         this.chosen = place === null ? null : this.journal.step(place);
-        if (this.chosen) this.view.reveal(place);
-        if (this.chosen) tellStep(this.chosen, this);
+        if (this.chosen) [this.view.reveal(place), tellStep(this.chosen, this)];
         [byId(\"step\").hidden, byId(\"whole\").hidden] = [!this.chosen, !!this.chosen];
         this.draw();
     }
@@ -58,8 +56,8 @@ class Page {
     }
     async find(words) {  // search, list by list, so that the page stays awake: all steps, or those of the way of a value
         const { journal } = this, [, way] = /^way (\\d+)$/i.exec(words) ?? [], start = journal.step(way - 1)?.sender, found = [];
-        const parts = way ? [] : words.match(/(port|step|waited) \\d+|P\\d+|=\\S+|\\S+/gi) ?? [], isEnd = (part) => ENDMOST.includes(part);
-        const tests = parts.filter((part) => !isEnd(part)).map((part) => this.testOf(part));
+        const parts = way ? [] : words.match(/(port|step|before|waited) \\d+|P\\d+|=\\S+|\\S+/gi) ?? [], isEnd = (part) => ENDMOST.includes(part);
+        const tests = parts.filter((part) => !isEnd(part)).map((part) => testOf(part));
         let told = performance.now();
         Object.assign(this, { words, found, marks: new Set() });
         for (const steps of start ? journal.wayOf(start) : words && !way ? journal.allSteps() : []) {
@@ -74,29 +72,25 @@ class Page {
         this.goFound(parts.includes(\"last\") ? -1 : 0, parts.some(isEnd) ? null : this.chosen);
         this.layOut();
     }
-    testOf(word) {
-        const number = Number(/\\d+/.exec(word)), text = word.slice(1), end = Object.keys(ENDS).find((letter) => ENDS[letter] === word);
-        if (/^P\\d+$/i.test(word)) return (step) => step.pid === number;
-        if (/^step \\d+$/i.test(word)) return (step) => step.place === number - 1;
-        if (/^waited \\d+$/i.test(word)) return (step) => step.waits && step.waited === number;
-        if (/^port \\d+$/i.test(word)) return (step) => step.ports.includes(number);
-        if (word[0] === \"=\") return ({ value }) => value === text || value?.[0] === \"#\" && readable(value) === `\\u201c${text}\\u201d`;
-        return end ? (step) => step.end.letter === end : (step) => step.title.includes(word);
-    }
     goFound(direction, from = this.chosen) {
         const { found, words } = this, own = found.indexOf(from?.place), behind = found.findIndex((place) => place > (from?.place ?? -1));
         const next = own < 0 ? (behind < 0 ? found.length : behind) - (direction < 0) : own + direction, at = (next + found.length) % found.length;
         const begin = from && direction === 0 ? `, ${own < 0 && behind < 0 ? \"none \" : \"\"}from step ${from.place + 1} on` : \"\";
         byId(\"count\").textContent = found.length ? `${at + 1} of ${found.length}${begin}` : words && \"none\";
-        byId(\"none\").textContent = found.length || !words ? \"\" : `Nothing is found by ${words}.${from ? \" What was chosen stays:\" : \"\"}`;
-        if (found.length) this.choose(found[at]);
+        byId(\"none\").textContent = found.length || !words ? \"\" : `Nothing is found by ${words}. ${KNOWN}${from ? \" What was chosen stays:\" : \"\"}`;
+        if (found.length || this.chosen) this.choose(found[at] ?? this.chosen.place);
     }
     async countTies(words, told) {
         await this.find(byId(\"find\").value = words);
         if (this.words === words) byId(\"ties\").textContent = `${this.found.length - told} more waited as long as the last`;
         this.choose(null);
     }
-    get isFollowing() { return /^(=|way \\d+$)/.test(this.words) && this.found.length > 0; }
+    endFind() { this.find(byId(\"find\").value = \"\"); }
+    get isFollowing() { return /^(=|way \\d+$)/i.test(this.words) && this.marks.has(this.chosen?.place); }  // the chosen step's value
+    follow() {  // or ends that
+        if (!this.chosen?.value || (this.isFollowing && this.words[0] !== \"=\")) this.endFind();
+        else location.hash = wayLink(this.chosen);
+    }
     writeLink() {  // links: #step=60&find=P3&from=1&to=100
         const { view: { first, steps }, words: find, chosen } = this, parts = { from: Math.round(first) + 1, to: Math.round(first + steps) };
         history.replaceState(null, \"\", `#${new URLSearchParams(Object.assign(parts, find && { find }, chosen && { step: chosen.place + 1 }))}`);
@@ -120,8 +114,8 @@ class Page {
         if (shiftKey || Math.abs(deltaX) > Math.abs(deltaY)) this.view.pan((deltaX + deltaY) / this.view.dots);
         else this.view.zoom(Math.exp(deltaY * 0.0018), offsetX);
     }
-    moveWhole({ offsetX }) {
-        this.view.show(offsetX / byId(\"strip\").clientWidth * this.journal.steps - this.view.steps / 2, this.view.steps);
+    moveWhole({ offsetX }, steps = this.view.steps < this.journal.steps ? this.view.steps : CLOSE) {
+        this.view.show(offsetX / byId(\"strip\").clientWidth * this.journal.steps - steps / 2, steps);
     }
     leaveFind(words) {  // what was typed is looked for when the cursor leaves the field, as it does by Enter
         if (words === this.words) this.goFound(1);

@@ -5,7 +5,7 @@ pub(super) const TEXT: &[u8] = b":root {
     --paper: light-dark(#fff, #16181c); --text: light-dark(#222, #e8e8e8); --dim: light-dark(#595959, #a8a8a8);
     --rule: light-dark(#8a8a8a, #6f747c); --soft: light-dark(#f5f6f7, #1e2126); --line: light-dark(#dcdfe3, #33373e);
     --grey: light-dark(#ddd, #3a3d42); --edge: light-dark(#6b6b6b, #a8a8a8); --trouble: light-dark(#c85000, #ff8533);
-    --on: light-dark(#c4167a, #ff7ac6); --words: light-dark(#a84300, #ff8533); --link: light-dark(#00609a, #7cc4f2);
+    --on: light-dark(#000, #fff); --words: light-dark(#a84300, #ff8533); --link: light-dark(#00609a, #7cc4f2);
     --h0: light-dark(#475666, #b8c4d0); --h1: light-dark(#0072b2, #56b4e9); --h2: light-dark(#9a5b00, #e69f00);
     --h3: light-dark(#007a58, #2fc79a); --h4: light-dark(#b03a78, #e58bc0); --h5: light-dark(#6a4fc0, #a99bff);
     --h6: light-dark(#006f80, #4fd3dc); --h7: light-dark(#666600, #cfcf4a);

@@ -1061,6 +1061,11 @@ def check_mouse(browser, count, path):
     browser.ask("Input.dispatchMouseEvent", type="mouseWheel", x=400, y=200, deltaX=0, deltaY=2000)
     browser.settle()
     count.test("and back", browser.value("page.view.steps") > steps, browser.value("page.view.steps"))
+    levels = [level for level in picture.Journal(PIPE.encode()).levels() if level.port == 2]
+    most = next(level.first for level in levels if level.count == max(level.count for level in levels))
+    browser.mouse(*browser.value("(({ x, y }) => [x + 9, y + 6])(document.querySelector('[data-strip=\"2\"]').getBoundingClientRect())"),
+        "mouseMoved", "mousePressed", "mouseReleased")
+    count.test("a click on a port's name goes where it first held the most", title(browser).startswith(f"Step {most + 1} of "), (title(browser), most))
     x, y = browser.value("(({ x, y, width }) => [x + width * 0.75, y + 30])(document.getElementById('strip').getBoundingClientRect())")
     browser.value("page.view.show(0, 20)")
     browser.mouse(x, y, "mouseMoved", "mousePressed", "mouseReleased")
@@ -1259,6 +1264,7 @@ CONTRASTS = """(() => {
     const c = PROBE, faults = [];
     const least = (name, one, other, bound) => { if (contrast(one, other) < bound) faults.push(`${name} ${contrast(one, other).toFixed(2)}`); };
     for (const name of ["rule", "edge", "trouble", "on", "h0", "h1", "h2", "h3", "h4", "h5", "h6", "h7"]) least(name, c[name], c.paper, 3);
+    for (const name of ["h0", "h1", "h2", "h3", "h4", "h5", "h6", "h7", "trouble"]) least("what is chosen, beside " + name, c.on, c[name], 1.5);
     for (const name of ["text", "dim", "h0", "h1", "h2", "h3", "h4", "h5", "h6", "h7", "edge"]) least(name + " as text or under it", c[name], c.paper, 4.5);
     least("text on grey", c.text, c.grey, 4.5);
     for (const element of document.querySelectorAll("body *:not(svg, svg *, option, select)")) {

@@ -21,14 +21,14 @@ class Painter {
         else if (!isNear) this.paintShapes();
     }
     names() {
-        const { view, journal } = this, name = (text, y, dim) => node("text", { x: LEFT - 8, y, class: `name ${dim ? "dim" : ""}` }, text);
+        const { view, journal } = this, name = (text, y, dim, more) => node("text", { x: LEFT - 8, y, class: `name ${dim ? "dim" : ""}`, ...more }, text);
         const line = (y, end, more = "") => node("path", { d: `M${LEFT},${y}H${Math.max(LEFT, Math.min(view.width, end))}`, class: `line ${more}` });
         const lanes = [...view.place].flatMap(([pid, { y, height }]) => {
             const exit = journal.exits[pid] ?? Infinity, label = pid < journal.procs ? `P${pid}` : "unknown";
             return [line(y, pid < journal.procs ? view.x(exit) : 0), name(height > FOLDED ? label : "", y, exit < view.first)];
         });
         return lanes.concat(view.strips().map((port, row) => [port, view.floor(row)]).flatMap(([port, floor]) =>
-            [name(`port ${port}`, floor - 8), line(floor, view.width), line(floor - STRIP + 8, view.width, "full")]));
+            [name(`port ${port}`, floor - 8, false, { "data-strip": port }), line(floor, view.width), line(floor - STRIP + 8, view.width, "full")]));
     }
     shapes() {
         const { view } = this, stalls = this.journal.stallsOf(...view.range()), rect = (shape, { title } = shape) => node("rect", { ...shape, title });

@@ -36,6 +36,7 @@ pub(super) const TEXT: &[u8] = b"</style>
 <tr><td>wheel, <kbd>+</kbd> <kbd>-</kbd> <kbd>0</kbd></td><td>nearer, farther, all</td></tr>
 <tr><td>drag, shift and wheel, <kbd>&larr;</kbd> <kbd>&rarr;</kbd> <kbd>Home</kbd> <kbd>End</kbd></td><td>to other steps</td></tr>
 <tr><td>click where there are no boxes yet, or on the strip</td><td>come near; go there, and near if all is in view</td></tr>
+<tr><td>click a port's name</td><td>go to the step after which it first held the most</td></tr>
 <tr><td>click a box, <kbd>j</kbd> <kbd>k</kbd></td><td>choose a step; the next one, the one before</td></tr>
 <tr><td><kbd>J</kbd> <kbd>K</kbd></td><td>the next step of the same process, the one before</td></tr>
 <tr><td>click a bar, <kbd>w</kbd></td><td>go to the step that ended the wait</td></tr>

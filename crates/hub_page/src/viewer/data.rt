@@ -145,8 +145,7 @@ pub(super) const SECOND: &[u8] =
     heldAt(place, port) {  // the steps that sent what a port holds after a step, oldest first
         const at = this.blockAt(place), level = this.block(at).levels.findLast((level) => level.port === port && level.from <= place);
         const sends = this.blocksWith(this.sent, this.width, port, at, -1).flatMap(({ senders }) => senders[port].toReversed());
-        const done = sends.map((send) => this.step(send)).filter((send) => send.end.by <= place);
-        return [...done.take(level?.count ?? this.levelBefore(at, port))].reverse();
+        return [...sends.map((send) => this.step(send)).filter(({ end }) => end.by <= place).take(level?.count ?? this.levelBefore(at, port))].reverse();
     }
     casesOf({ place, calls, last }) {  // a guess: a port of which one took its own value back last is a lock, and its value's sender has it
         const steps = calls.map((call) => this.step(call)), all = steps.flatMap((step) => step.offers.map((offer) => ({ step, offer })));
@@ -159,6 +158,10 @@ pub(super) const SECOND: &[u8] =
     }
     mostOf(port, first, end) {
         return numbers(this.blockAt(first), Math.ceil(end / BLOCK)).reduce((most, at) => Math.max(most, this.most[(at + 1) * this.width + port]), 0);
+    }
+    firstMost(port) {  // after which step it first held the most that it ever does
+        const most = this.mostOf(port, 0, this.steps), at = numbers(0, this.blocks).find((at) => this.most[(at + 1) * this.width + port] === most);
+        return this.block(at).levels.find((level) => level.port === port && level.count === most)?.from;
     }
     stepsOfProcess({ place, pid, lane }, direction) {  // behind a step (1) or before it (-1), the nearest first
         return this.blocksWith(this.asked, this.lanes, lane, this.blockAt(place), direction)
@@ -184,11 +187,10 @@ pub(super) const SECOND: &[u8] =
         return this[name][at * this.lanes + lane] * (1 - part) + this[name][(at + 1) * this.lanes + lane] * part;
     }
 }
-const counted = (count, word) => `${count} ${word}${count === 1 ? \"\" : \"s\"}`;
+const UTF_8 = new TextDecoder(\"utf-8\", { ignoreBOM: true }), counted = (count, word) => `${count} ${word}${count === 1 ? \"\" : \"s\"}`;
 function readable(value) {  // bytes as text where they are UTF-8 without control characters; else as they are spelled
     if (!value?.startsWith(\"#\")) return value;
-    const bytes = Uint8Array.from(value.slice(1).match(/../g) ?? [], (two) => parseInt(two, 16));
-    const text = new TextDecoder(\"utf-8\", { ignoreBOM: true }).decode(bytes);
+    const bytes = (value.match(/[^#]./g) ?? []).map((two) => parseInt(two, 16)), text = UTF_8.decode(Uint8Array.from(bytes));
     return /[\\p{C}\\p{Zl}\\p{Zp}\\ufffd]/u.test(text) ? value : `\\u201c${text}\\u201d`;
 }
 function testOf(word) {  // of what is typed in Find: whether a step is meant

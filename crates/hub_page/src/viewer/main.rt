@@ -15,7 +15,8 @@ class Page {
             \"+\": () => view.zoom(0.7), \"-\": () => view.zoom(1 / 0.7), \"/\": () => [byId(\"find\").focus(), byId(\"find\").select()],
             \"?\": () => byId(\"help\").showModal(), g: () => this.choose(this.chosen?.partner?.place), w: () => this.choose(this.chosen?.end.by),
             j: () => this.choose(this.chosen ? this.chosen.place + 1 : Math.ceil(view.first)), k: () => this.choose(this.chosen?.place - 1),
-            J: () => this.choose(ownStep(1)), K: () => this.choose(ownStep(-1)), f: () => this.follow(), Enter: () => this.goFound(1),
+            J: () => this.choose(ownStep(1)), K: () => this.choose(ownStep(-1)), Enter: () => this.goFound(1),
+            f: () => (!this.chosen?.value || this.isFollowing && this.words[0] !== \"=\" ? this.endFind() : location.assign(`#${wayLink(this.chosen)}`)),
             n: () => this.goFound(1), p: () => this.goFound(-1), \"<\": () => this.goFound(0, null), \">\": () => this.goFound(-1, null),
         };
         document.title = byId(\"journal\").textContent = location.pathname.split(\"/\").pop().replace(/\\.html$/, \"\").replace(/%../g, \"_\");
@@ -87,10 +88,6 @@ class Page {
     }
     endFind() { this.find(byId(\"find\").value = \"\"); }
     get isFollowing() { return /^(=|way \\d+$)/i.test(this.words) && this.marks.has(this.chosen?.place); }  // the chosen step's value
-    follow() {  // or ends that
-        if (!this.chosen?.value || (this.isFollowing && this.words[0] !== \"=\")) this.endFind();
-        else location.hash = wayLink(this.chosen);
-    }
     writeLink() {  // links: #step=60&find=P3&from=1&to=100
         const { view: { first, steps }, words: find, chosen } = this, parts = { from: Math.round(first) + 1, to: Math.round(first + steps) };
         history.replaceState(null, \"\", `#${new URLSearchParams(Object.assign(parts, find && { find }, chosen && { step: chosen.place + 1 }))}`);
@@ -106,9 +103,10 @@ class Page {
         this.view.pan(-movementX / this.view.dots);
         byId(\"scroll\").scrollTop -= movementY;
     }
-    click({ target: { dataset: { link } }, offsetX }) {
+    click({ target: { dataset: { link, strip } }, offsetX }) {
         if (link) location.hash = link;
-        else if (this.view.steps > MOST_NEAR) this.view.reveal(this.view.stepAt(offsetX));
+        else if (strip) this.choose(this.journal.firstMost(Number(strip)));
+        else if (this.view.steps > MOST_NEAR && offsetX >= LEFT) this.view.reveal(this.view.stepAt(offsetX));
     }
     wheel({ shiftKey, deltaX, deltaY, offsetX }) {
         if (shiftKey || Math.abs(deltaX) > Math.abs(deltaY)) this.view.pan((deltaX + deltaY) / this.view.dots);

@@ -46,7 +46,7 @@ button:hover { background: var(--soft); }
 #axis { position: sticky; top: 0; background: var(--paper); z-index: 1; border-bottom: 1px solid var(--line); }
 #far, #lanes { position: absolute; top: 0; left: 0; }
 #lanes { touch-action: none; cursor: default; }
-[data-link] { cursor: pointer; }
+[data-link], [data-strip] { cursor: pointer; }
 #lanes.far { cursor: zoom-in; }
 #lanes.far .line { opacity: 0.4; }
 /* The signs of shapes. */

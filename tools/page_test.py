@@ -562,7 +562,7 @@ def check_long(browser, count, work, seed, total):
     open_page(browser, text, work / "random.html")
     draw = random.Random(seed).randrange
     places = [(steps, draw(total - steps + 1)) for steps in (total, 900, 450, 100, 100, 30, 30)]
-    places += [(60, at * BLOCK - back) for at, back in zip(range(3, total // BLOCK, 4), (60, 58, 57, 30, 2, 0) * 9)]  # round blocks' ends
+    places += [(60, at * BLOCK - back) for at, back in zip(range(3, total // BLOCK, 4), (60, 58, 57, 30, 2, 0) * 9)]  # blocks' ends
     for steps, first in places:
 
         def test():
@@ -1019,8 +1019,9 @@ def check_follow(browser, count, path):
     own = texts(browser, "#moves .fired")
     count.test("the chosen step's move is marked", own == stages[:1], own)
     browser.key("k")
-    left = browser.value(f"[{clear}.length === document.querySelectorAll('#lanes .box').length, page.words]"), texts(browser, "#moves li")
-    count.test("a step that is not on the way is not mixed with it", left == ([True, f"way {first + 3}"], []), left)
+    left = browser.value(f"[{clear}.length === document.querySelectorAll('#lanes .box').length, page.words]")
+    told = texts(browser, "#moves li")
+    count.test("a step that is not on the way is not mixed with it", (left, told) == ([True, f"way {first + 3}"], []), (left, told))
     browser.key("j")
     browser.key("f")
     ended = browser.value("[page.words, page.found.length, document.getElementById('find').value]"), texts(browser, "#moves li")
@@ -1065,7 +1066,8 @@ def check_mouse(browser, count, path):
     most = next(level.first for level in levels if level.count == max(level.count for level in levels))
     browser.mouse(*browser.value("(({ x, y }) => [x + 9, y + 6])(document.querySelector('[data-strip=\"2\"]').getBoundingClientRect())"),
         "mouseMoved", "mousePressed", "mouseReleased")
-    count.test("a click on a port's name goes where it first held the most", title(browser).startswith(f"Step {most + 1} of "), (title(browser), most))
+    told = title(browser)
+    count.test("a click on a port's name goes where it first held the most", told.startswith(f"Step {most + 1} of "), (told, most))
     x, y = browser.value("(({ x, y, width }) => [x + width * 0.75, y + 30])(document.getElementById('strip').getBoundingClientRect())")
     browser.value("page.view.show(0, 20)")
     browser.mouse(x, y, "mouseMoved", "mousePressed", "mouseReleased")
@@ -1210,8 +1212,8 @@ def check_find(browser, count):
     told = look("=99")
     panel = browser.value("((none) => none.checkVisibility() && none.textContent)(document.getElementById('none'))")
     count.test("the panel says that nothing is found", told[0] == "none"
-        and panel == "Nothing is found by =99. P3, port 2, =17, stalled, step 60 would be; Help lists all words. What was chosen stays:",
-        (told, panel))
+        and panel == "Nothing is found by =99. Find knows words as P3, port 2, =17, stalled, step 60; Help has all. "
+        "What was chosen stays:", (told, panel))
     browser.key("Escape")
     count.test("Escape ends a search", browser.value("[page.words, document.getElementById('find').value]") == ["", ""])
     count.test("Escape works after a search", title(browser) == "The whole", title(browser))

@@ -1,5 +1,5 @@
 // The page: what is chosen, and what search, links, wheel, mouse and keys do.
-const byId = (id) => document.getElementById(id), ENDMOST = ["first", "last"], KNOWN = `${byId("find").placeholder} would be; Help lists all words.`;
+const byId = (id) => document.getElementById(id), ENDMOST = ["first", "last"], KNOWN = `Find knows words as ${byId("find").placeholder}; Help has all.`;
 class Page {
     constructor(journal, story) {
         const view = new View(journal, () => this.draw());

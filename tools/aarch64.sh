@@ -24,11 +24,11 @@ END
 
 # put_together: one object of all, in which no name but the header's can be seen from outside.
 put_together() {
-    for source in chanhub files heap recorded texts; do
-        $cc -O2 -std=c11 -Wall -Wextra -Werror -fPIC -c "$source.c" -o "$out/$source.o" || return
+    rm -rf "$out/objects" && mkdir "$out/objects" || return
+    for source in *.c; do
+        $cc -O2 -std=c11 -Wall -Wextra -Werror -fPIC -c "$source" -o "$out/objects/${source%.c}.o" || return
     done
-    aarch64-linux-gnu-ld -r -o "$out/whole.o" "$out/chanhub.o" "$out/files.o" "$out/heap.o" "$out/recorded.o" "$out/texts.o" \
-        --whole-archive "$out/libhub_c.a" &&
+    aarch64-linux-gnu-ld -r -o "$out/whole.o" "$out/objects"/*.o --whole-archive "$out/libhub_c.a" &&
         aarch64-linux-gnu-objcopy --wildcard --keep-global-symbol='chanhub_*' "$out/whole.o" && rm -f "$out/libchanhub.a" &&
         aarch64-linux-gnu-ar rcs "$out/libchanhub.a" "$out/whole.o"
 }

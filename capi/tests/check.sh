@@ -18,6 +18,8 @@ cxx=${CXX:-c++}
 cxxflags='-std=c++17 -O2 -Wall -Wextra -Werror -I.'
 by_cxx=
 flags="-std=c11 -D_DEFAULT_SOURCE -O2 -Wall -Wextra -Werror -I."
+# what tests link with the names within the library, to wrap them; files.c and texts.c, which need none of it, are left out
+hub='calls.c chapters.c clock.c deadlines.c following.c heap.c journals.c looks.c opening.c recorded.c waits.c'
 proved="../crates/hub_c/out/libhub_c.a $(dirname "$(rt doc)")/c/liblibc_c.a"
 threads='cancelled second closed stalled handed'
 handing='busy parked woken full cancelled slow inside'
@@ -206,10 +208,10 @@ for test in alone threads; do
 done
 wrapped=
 for name in make send recv call cancel exit entries take look present; do wrapped="$wrapped -Wl,--wrap=hub_c_$name"; done
-check 'inside builds' "$cc" $flags $wrapped chanhub.c heap.c recorded.c tests/inside.c $proved -lpthread -o "$work/inside"
+check 'inside builds' "$cc" $flags $wrapped $hub tests/inside.c $proved -lpthread -o "$work/inside"
 check 'no two inside of a hub' "$work/inside"
 wraps_looks=-Wl,--wrap=hub_c_look,--wrap=hub_c_recv
-check 'looks builds' "$cc" $flags $wraps_looks chanhub.c heap.c recorded.c tests/looks.c $proved -lpthread -o "$work/looks"
+check 'looks builds' "$cc" $flags $wraps_looks $hub tests/looks.c $proved -lpthread -o "$work/looks"
 for test in alone inside; do
     check "looks: $test" "$work/looks" "$test"
 done
@@ -222,7 +224,7 @@ for test in load chapters; do
 done
 wrapped=
 for name in recv call cancel; do wrapped="$wrapped -Wl,--wrap=hub_c_$name"; done
-check 'clock builds' "$cc" $flags $wrapped chanhub.c heap.c recorded.c tests/clock.c $proved -lpthread -o "$work/clock"
+check 'clock builds' "$cc" $flags $wrapped $hub tests/clock.c $proved -lpthread -o "$work/clock"
 check 'each step refused while deadlines pass' "$work/clock"
 for test in alone threads; do
     check "a journal is followed: $test" "$work/following" "$test"
@@ -287,7 +289,7 @@ if echo 'int main(void) { return 0; }' | "$cc" -fsanitize=thread -x c - -o "$wor
     sanitize="$flags -g -fsanitize=thread"
     # The library once, for all of them.
     sanitized="$work/sanitized.o $proved -lpthread"
-    check 'the library builds for the thread sanitizer' "$cc" $sanitize -r -nostdlib chanhub.c files.c heap.c recorded.c texts.c \
+    check 'the library builds for the thread sanitizer' "$cc" $sanitize -r -nostdlib $hub files.c texts.c \
         -o "$work/sanitized.o"
     for test in crew threads handing chapters soak deadlines following followed_runs; do
         check "$test builds for the thread sanitizer" "$cc" $sanitize "tests/$test.c" $sanitized -o "$work/sanitized-$test"

@@ -1,7 +1,7 @@
 /* Memory refused to each step in turn, while deadlines pass: nothing hangs, whoever is refused is told, a deadlock is told as ever, and
  * the journal has the steps that were made.
  *
- * Linked with chanhub.c itself and with --wrap for the steps of the proved library. A test that hangs is ended by an alarm.
+ * Linked with the library's sources and with --wrap for the steps of the proved library. A test that hangs is ended by an alarm.
  */
 #include "hub_c.h"
 #include "tally.h"

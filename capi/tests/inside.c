@@ -1,7 +1,7 @@
 /* No two threads are inside of a hub at once, and none reads what another was told: threads that pass bytes and numbers, look, read the
  * journal, begin and resume, and whose deadlines pass, with every entry into the proved library counted.
  *
- * Linked with chanhub.c itself and with --wrap for each function of the library that it calls.
+ * Linked with the library's sources and with --wrap for each function of the library that it calls.
  */
 #include "hub_c.h"
 #include "tally.h"

@@ -4,7 +4,7 @@
  *     looks inside           a look ends while another thread is in the hub
  *     looks threads FOLDER   threads that look while others call: writes FOLDER/journal, and a line for each look to FOLDER/looks
  *
- * Linked with chanhub.c itself, and with --wrap for hub_c_look and hub_c_recv.
+ * Linked with the library's sources, and with --wrap for hub_c_look and hub_c_recv.
  */
 #include "hub_c.h"
 #include "tally.h"

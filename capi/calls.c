@@ -1,0 +1,155 @@
+/* The calls: how each begins and ends, and those that have no deadline.
+ *
+ * Mostly a call takes the lock, makes its step and leaves the lock, which hub.h has. What else there may be to do is not
+ * compiled into the call. A thread holds the lock during each step, and until it has noted what follows from that. It lets go of
+ * it to wait, and to hand out a chapter.
+ */
+#include "hub.h"
+
+#include <string.h>
+
+enum { MOST_BYTES = 32 };
+
+chanhub_value chanhub_number(uint64_t number) {
+    return (chanhub_value){ .number = number };
+}
+
+chanhub_value chanhub_bytes(const void *bytes, size_t length) {
+    chanhub_value value = { .is_bytes = true, .length = (uint8_t)(length > MOST_BYTES ? MOST_BYTES + 1 : length) };
+    if (length == MOST_BYTES) memcpy(value.bytes, bytes, MOST_BYTES); /* of a known length, so without a call */
+    else if (length && length < MOST_BYTES) memcpy(value.bytes, bytes, length);
+    return value;
+}
+
+/* Whether a call of this process, or its exit, can begin: the fault if not, and then it leaves the lock. Holds the lock. */
+uint8_t look_closer(chanhub *h, unsigned pid, bool exits) {
+    uint8_t why = h->open & only(pid) ? CHANHUB_BUSY : h->end ? CHANHUB_DIVERGED : refusal_by_clock(h, pid, exits);
+    if (why) leave_lock(h);
+    return why;
+}
+
+/* Ends the call of a process whose step parked, ended calls, or left a chapter to be read: wakes those whose calls it ended,
+ * hands out the chapter that it made fall out, sees to the clock, and where it parked, waits for so many nanoseconds. Holds the
+ * lock since the step, and leaves it. */
+chanhub_told finish_by_waking(chanhub *h, uint8_t pid, const struct told *t, uint64_t nanoseconds) {
+    uint64_t ended = t->ended;
+    bool has_parked = t->it.what == CHANHUB_WAITING;
+    if (has_parked) h->open |= only(pid);
+    note_ended(h, ended);
+    bool claimed = claims_chapter(h, t->chapter);
+    if (has_parked || claimed || is_clock_due(h)) {
+        wake(h, ended);
+        ended = 0;
+        if (claimed) hand_out(h, pid);
+        settle_clock(h, pid);
+    }
+    chanhub_told answer = has_parked ? wait_for(h, pid, nanoseconds) : t->it;
+    leave_lock(h);
+    wake(h, ended);
+    return answer;
+}
+
+chanhub_told chanhub_make(chanhub *h, unsigned pid, uint32_t cap) {
+    struct told t = { 0 };
+    if (is_bad(h, pid, 0)) return fault(CHANHUB_BAD_CALL);
+    uint8_t why = enter(h, pid);
+    if (why) return refused(h, why);
+    STEP(h, pid, &t, hub_c_make(&h->hub, (uint8_t)pid, cap, &t));
+    return finish(h, (uint8_t)pid, &t, FOR_EVER);
+}
+
+chanhub_told chanhub_send(chanhub *h, unsigned pid, unsigned port, chanhub_value value) {
+    struct told t = { 0 };
+    if (is_bad(h, pid, port)) return fault(CHANHUB_BAD_CALL);
+    uint8_t why = enter(h, pid);
+    if (why) return refused(h, why);
+    STEP(h, pid, &t, hub_c_send(&h->hub, (uint8_t)pid, (uint16_t)port, &value, &t));
+    show_port(h, port);
+    return finish(h, (uint8_t)pid, &t, FOR_EVER);
+}
+
+chanhub_told chanhub_recv(chanhub *h, unsigned pid, unsigned port) {
+    struct told t = { 0 };
+    if (is_bad(h, pid, port)) return fault(CHANHUB_BAD_CALL);
+    uint8_t why = enter(h, pid);
+    if (why) return refused(h, why);
+    STEP(h, pid, &t, hub_c_recv(&h->hub, (uint8_t)pid, (uint16_t)port, &t));
+    show_port(h, port);
+    return finish(h, (uint8_t)pid, &t, FOR_EVER);
+}
+
+chanhub_told chanhub_close(chanhub *h, unsigned pid, unsigned port) {
+    struct told t = { 0 };
+    if (is_bad(h, pid, port)) return fault(CHANHUB_BAD_CALL);
+    uint8_t why = enter(h, pid);
+    if (why) return refused(h, why);
+    STEP(h, pid, &t, hub_c_close(&h->hub, (uint8_t)pid, (uint16_t)port, &t));
+    show_port(h, port);
+    return finish(h, (uint8_t)pid, &t, FOR_EVER);
+}
+
+chanhub_told chanhub_exit(chanhub *h, unsigned pid) {
+    struct told t = { 0 };
+    if (is_bad(h, pid, 0)) return fault(CHANHUB_BAD_CALL);
+    uint8_t why = enter_for(h, pid, true);
+    if (why) return refused(h, why);
+    STEP(h, pid, &t, hub_c_exit(&h->hub, (uint8_t)pid, &t));
+    h->exits += t.it.what == CHANHUB_DONE;
+    return finish(h, (uint8_t)pid, &t, FOR_EVER);
+}
+
+chanhub_told chanhub_cancel(chanhub *h, unsigned pid, unsigned other) {
+    struct told t = { 0 };
+    if (is_bad(h, pid, 0) || other > GREATEST_PID) return fault(CHANHUB_BAD_CALL);
+    if (other == h->clock && other != NOBODY) return fault(CHANHUB_NO_PROCESS);
+    uint8_t why = enter(h, pid);
+    if (why) return refused(h, why);
+    STEP(h, pid, &t, hub_c_cancel(&h->hub, (uint8_t)pid, (uint8_t)other, &t));
+    return finish(h, (uint8_t)pid, &t, FOR_EVER);
+}
+
+/* A select that waits for at most so many nanoseconds, and stays open then. */
+chanhub_told select_for(chanhub *h, unsigned pid, const chanhub_case *cases, size_t count, bool has_default, uint64_t word,
+                        uint64_t nanoseconds) {
+    struct told t = { 0 };
+    if (is_bad(h, pid, 0)) return fault(CHANHUB_BAD_CALL);
+    uint8_t why = enter(h, pid);
+    if (why) return refused(h, why);
+    STEP(h, pid, &t, hub_c_call(&h->hub, (uint8_t)pid, cases, count, has_default, word, &t));
+    show_fired(h, cases, count, &t);
+    return finish(h, (uint8_t)pid, &t, nanoseconds);
+}
+
+chanhub_told chanhub_select(chanhub *h, unsigned pid, const chanhub_case *cases, size_t count, bool has_default, uint64_t word) {
+    return select_for(h, pid, cases, count, has_default, word, FOR_EVER);
+}
+
+/* A select of this one case, with a default. */
+static chanhub_told try_case(chanhub *h, unsigned pid, unsigned port, bool sends, chanhub_value value) {
+    if (port > GREATEST_PORT) return fault(CHANHUB_BAD_CALL);
+    chanhub_case one = { .sends = sends, .port = (uint16_t)port, .value = value };
+    return chanhub_select(h, pid, &one, 1, true, 0);
+}
+
+chanhub_told chanhub_try_send(chanhub *h, unsigned pid, unsigned port, chanhub_value value) {
+    return try_case(h, pid, port, true, value);
+}
+
+chanhub_told chanhub_try_recv(chanhub *h, unsigned pid, unsigned port) {
+    return try_case(h, pid, port, false, (chanhub_value){ 0 });
+}
+
+chanhub_told chanhub_begin(chanhub *h, unsigned pid, const chanhub_case *cases, size_t count, bool has_default, uint64_t word) {
+    return select_for(h, pid, cases, count, has_default, word, 0);
+}
+
+chanhub_told chanhub_resume(chanhub *h, unsigned pid, uint64_t nanoseconds) {
+    if (is_bad(h, pid, 0)) return fault(CHANHUB_BAD_CALL);
+    take_lock(h);
+    chanhub_told t;
+    if (!(h->open & only(pid))) t = fault(CHANHUB_NOT_PARKED);
+    else if (h->awaited & only(pid)) t = fault(CHANHUB_BUSY);
+    else t = wait_for(h, pid, nanoseconds);
+    leave_lock(h);
+    return t;
+}

@@ -176,7 +176,7 @@ class Following(unittest.TestCase):
             self.assertEqual(self.objects(lambda: Hub.follow(journal, objects=True)), (got, journal))
 
     def timed_objects(self, opens, timeout):
-        """A thread that sends objects, of which some are not received in time, and one that receives them."""
+        """A thread that sends objects, of which some may not be received in time, and one that receives once more than objects are sent."""
         with opens() as hub:
             zero, one = hub.seat(0), hub.seat(1)
             port = zero.make(1)
@@ -184,9 +184,9 @@ class Following(unittest.TestCase):
 
             def receives():
                 with one:
-                    for _ in range(20):
+                    for count in range(21):
                         try:
-                            told.append(one.recv(port, timeout))
+                            told.append(one.recv(port, timeout if count < 20 else 20 * timeout))
                         except TimedOut:
                             told.append(None)
             ends = self.in_thread(receives)
@@ -208,6 +208,7 @@ class Following(unittest.TestCase):
             self.assertEqual(sorted(map(repr, again)), sorted(map(repr, told)))
             self.assertEqual(same, journal)
             passed += journal.count(b'\n2 cancel ')
+        # The last receive of each run waits until its deadline, unless the thread is held up for as long.
         self.assertGreater(passed, 0)
 
     def test_end_of_the_block(self):

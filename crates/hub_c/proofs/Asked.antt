@@ -1,10 +1,12 @@
 -- What is asked of cases that come from C, in one pass or in two.
-use Rattle.std.proofs.Common.{◌≡◌, ◌∙◌, ℕ, Bool, true, false, List, [], ◌∷◌, ap, refl, sym, length, map, take}
+use Rattle.std.proofs.Common.{◌≡◌, ◌∙◌, ℕ, Bool, true, false, List, [], ◌∷◌, ap, refl, subst, sym, length, map, take}
 use Rattle.std.specs.Prelude.{◌&&◌, nat_le}
 use Rattle.std.specs.List.{list_all}
 use Rattle.hub_base.specs.declared.limits.TheConstants.{CASE_PLACES}
 use Rattle.hub_base.specs.Value.{bytes_of}
+use Rattle.hub_base.specs.declared.case.Case.{Case}
 use Rattle.hub_base.specs.declared.head.Edition.{Edition}
+use Rattle.hub_base.specs.declared.head.Head.{Head}
 use Rattle.hub_base.specs.Head.{has_case, has_value}
 use Rattle.hub_base.specs.Notation.{select}
 use Rattle.hub_text.proofs.Numerals.{and-true}
@@ -53,18 +55,37 @@ refused_so was pid cases default word told not_so is =
     by true false one none not_both = rw (one, none) (refl, is)
     by true true one all not_both = cc
 
-pub both_asked : (edition : Edition) (cases : List CaseC) → are_cases_of edition cases ≡ true
+both_asked : (edition : Edition) (cases : List CaseC) → are_cases_of edition cases ≡ true
     → (are_cases cases ≡ true) × (list_all (has_case edition) (map case_in cases) ≡ true)
 both_asked edition cases so =
     and-true (are_cases cases) (list_all (has_case edition) (map case_in cases)) (sym (cases_split edition cases) ∙ so)
 
 -- a step that the hub's edition has
-pub served_so : (was now : Session) (pid : ℕ) (cases : List CaseC) (default word : ℕ) (told : ToldC)
+served_so : (was now : Session) (pid : ℕ) (cases : List CaseC) (default word : ℕ) (told : ToldC)
     → are_cases_of (head_in was.hub).edition cases ≡ true
     → ServesIn was (select pid word (map case_in cases) (is_true default)) now told → StepsSaid was (call_of pid cases default word) now told
 served_so was now pid cases default word told so serves =
     let both = both_asked (head_in was.hub).edition cases so in
     rw (both.0, both.1) serves
+
+-- what was asked by the edition in a head that was read is so by the hub's own
+pub asked_so : {b : Bool} (was : Session) (cases : List CaseC) (read : Head) (asked : Bool) → read ≡ head_in was.hub
+    → asked ≡ are_cases_of read.edition cases → asked ≡ b → are_cases_of (head_in was.hub).edition cases ≡ b
+asked_so was cases read asked same is so = ap (λ (h : Head). are_cases_of h.edition cases) (sym same) ∙ sym is ∙ so
+
+-- the cases that were read of these structs are ones that the hub's edition has
+pub read_fit : (was : Session) (cases : List CaseC) (items : List Case) → are_cases_of (head_in was.hub).edition cases ≡ true
+    → items ≡ map case_in cases → list_all (has_case (head_in was.hub).edition) items ≡ true
+read_fit was cases items so same =
+    ap (list_all (has_case (head_in was.hub).edition)) same ∙ (both_asked (head_in was.hub).edition cases so).1
+
+-- the step of those cases is the one that was asked for
+pub read_served : (was now : Session) (pid : ℕ) (cases : List CaseC) (default word : ℕ) (told : ToldC) (items : List Case)
+    → are_cases_of (head_in was.hub).edition cases ≡ true → items ≡ map case_in cases
+    → ServesIn was (select pid word items (is_true default)) now told → StepsSaid was (call_of pid cases default word) now told
+read_served was now pid cases default word told items so same serves =
+    served_so was now pid cases default word told so
+    (subst (λ (xs : List Case). ServesIn was (select pid word xs (is_true default)) now told) same serves)
 
 -- a case that sends bytes is one of each edition that has them
 pub suits_bytes : (edition : Edition) (c : CaseC) (bytes : List ℕ) → is_true c.sends ≡ true → is_true c.value.is_bytes ≡ true

@@ -242,7 +242,7 @@ def worked(program, _):
             yield f"{row['name']}: trace by the second reading", in_any_order(events_of(Journal(row["journal"]))) == in_any_order(json.loads(wanted)["traceEvents"])
             yield f"{row['name']}: trace by the rules", is_trace(wanted)
         if "page" in row:
-            yield f"{row['name']}: page", page_of(row["page"], row["journal"]).encode() == program.run(["page"], journal)[1]
+            yield f"{row['name']}: page", page_of(row["page"], row["journal"]).encode() == program.run(["page", *map(str, row.get("shown", ()))], journal)[1]
 
 
 def page_of(data, journal):

@@ -38,7 +38,7 @@ IsIn (form.Text paint) w given text = text ≡ painted_text paint w given.head g
 IsIn form.Picture w given text = IsPicture w given text
 IsIn form.Mermaid w given text = text ≡ mermaid_text w given.head.procs given.entries (told given.head given.entries)
 IsIn form.Trace w given text = text ≡ trace_text given.head.procs given.entries (told given.head given.entries)
-IsIn form.Page w given text = text ≡ page_text given.head given.entries (told given.head given.entries)
+IsIn form.Page w given text = text ≡ page_text w given.head given.entries (told given.head given.entries)
 
 -- the first bytes are a journal's text, and the others what is asked of it
 pub record IsExplanation (asked : Asked) (bytes text : List ℕ) : Type 0 where

@@ -91,7 +91,7 @@ pub(crate) fn command_of<'a>(
         "picture" => Ok(read_given(found).map(Command::Picture)),
         "mermaid" => Ok(read_given(found).map(Command::Mermaid)),
         "trace" => Ok(Some(Command::Trace(read_whole(found)))),
-        "page" => Ok(Some(Command::Page(read_whole(found)))),
+        "page" => Ok(read_given(found).map(Command::Page)),
         "serve" => Ok(Some(Command::Serve)),
         "chain" => Ok(Some(Command::Chain(read_files(alloc, found)?))),
         "explore" => Ok(read_exploring(found).map(Command::Explore)),

@@ -38,7 +38,7 @@ fn explanation(alloc: Global, asked: Asked, bytes: Vec<u8>) -> Result<PackedText
         Form::Picture => Ok(picture_of(alloc, &journal, window)?),
         Form::Mermaid => Ok(diagram_of(alloc, &journal, window)?),
         Form::Trace => Ok(trace_of(alloc, &journal)?),
-        Form::Page => Ok(page_of(alloc, &journal)?),
+        Form::Page => Ok(page_of(alloc, &journal, window)?),
     }
 }
 

@@ -1,29 +1,34 @@
--- The data of a page: a line for each step, what it asks, and behind that what is told by it; and behind the lines of each block of
--- steps a sketch of the block.
-use Rattle.std.specs.Prelude.{ℕ, ◌+◌, ◌-◌, ◌*◌, ◌/◌, min, List, [], ◌++◌, codes, length, slice_get}
+-- The data of a page: a line for each step, and behind the lines of each block of steps a sketch of the block. The line says what a step
+-- asks, and behind that what is told by it; it is empty where the page does not tell the step.
+use Rattle.std.specs.Prelude.{ℕ, ◌+◌, ◌-◌, ◌*◌, ◌/◌, min, List, [], ◌++◌, codes, decimal, length, slice_get, if◌then◌else◌}
 use Rattle.std.specs.List.{flat_map, range_with_len}
 use Rattle.std.specs.Option.{option_map_or}
 use Rattle.hub_base.specs.declared.head.Head.{Head}
 use Rattle.hub_base.specs.Entry.{Entry}
 use Rattle.hub_base.specs.Reading.{head_lines}
 use Rattle.hub_story.specs.declared.told.Told.{Told}
+use Rattle.hub_story.specs.declared.window.Window.{Window}
 use Rattle.hub_story.specs.Waiting.{stalled_by}
 use Rattle.hub_story_text.specs.StoryText.{came_by}
 use Rattle.hub_page.specs.declared.limits.TheConstants.{BLOCK}
 use Rattle.hub_page.specs.Entries.{entry_words}
 use Rattle.hub_page.specs.Ends.{told_words}
+use Rattle.hub_page.specs.Excerpt.{is_told}
 use Rattle.hub_page.specs.Places.{places}
 use Rattle.hub_page.specs.Sketch.{sketch_words}
 use Rattle.hub_page.specs.Stalls.{stall_words}
 
--- the line of the entry at this place
-abbrev pub step_line : List Entry → List Told → ℕ → Entry → List ℕ
-step_line es all place e =
-    entry_words e ++ flat_map (told_words es all place) (came_by place all)
-    ++ stall_words es all place (stalled_by all place) ++ codes "\n"
+-- the line of the entry at this place, by which these events came, and these of them stalled
+abbrev pub full_line : List Entry → List Told → ℕ → Entry → List Told → List Told → List ℕ
+full_line es all place e came stalled =
+    entry_words e ++ flat_map (told_words es all place) came ++ stall_words es all place stalled ++ codes "\n"
 
-abbrev pub line_at : List Entry → List Told → ℕ → List ℕ
-line_at es all place = option_map_or (step_line es all place) (slice_get es place) []
+-- where the page tells the steps of this window
+abbrev pub step_line : Window → ℕ → List Entry → List Told → ℕ → Entry → List Told → List Told → List ℕ
+step_line w procs es all place e came stalled = if is_told w procs es all place e came then full_line es all place e came stalled else codes "\n"
+
+abbrev pub line_at : Window → ℕ → List Entry → List Told → ℕ → List ℕ
+line_at w procs es all place = option_map_or (λ e. step_line w procs es all place e (came_by place all) (stalled_by all place)) (slice_get es place) []
 
 -- ---- blocks
 -- how many there are of so many steps
@@ -35,13 +40,24 @@ abbrev pub block_begin : ℕ → ℕ → ℕ
 block_begin count number = min (BLOCK * number) count
 
 -- the lines from the first place on, before the end, and a sketch of them
-abbrev pub lines_and_sketch : List Entry → List Told → ℕ → ℕ → ℕ → List ℕ
-lines_and_sketch es all procs first end = flat_map (line_at es all) (places first end) ++ sketch_words es all procs first end
+abbrev pub lines_and_sketch : Window → ℕ → List Entry → List Told → ℕ → ℕ → List ℕ
+lines_and_sketch w procs es all first end = flat_map (line_at w procs es all) (places first end) ++ sketch_words es all procs first end
 
-abbrev pub block_text : ℕ → List Entry → List Told → ℕ → List ℕ
-block_text procs es all number =
-    lines_and_sketch es all procs (block_begin (length es) number) (block_begin (length es) (number + 1))
+abbrev pub block_text : Window → ℕ → List Entry → List Told → ℕ → List ℕ
+block_text w procs es all number =
+    lines_and_sketch w procs es all (block_begin (length es) number) (block_begin (length es) (number + 1))
 
--- of a journal with this head and these entries, of which this is told
-abbrev pub data_text : Head → List Entry → List Told → List ℕ
-data_text h es all = head_lines h ++ flat_map (block_text h.procs es all) (range_with_len 0 (block_count (length es)))
+-- ---- all
+-- the blocks of so many steps of which the window has some, whole
+abbrev pub whole_blocks : ℕ → Window → Window
+whole_blocks count w = record { first = block_begin count (w.first / BLOCK); end = block_begin count (block_count w.end) }
+
+-- the steps of the window, which are counted from 1
+abbrev pub window_line : Window → List ℕ
+window_line w = codes "steps " ++ decimal (w.first + 1) ++ codes " " ++ decimal w.end ++ codes "\n"
+
+-- of a journal with this head and these entries, of which this is told; the steps of this window are asked for
+abbrev pub data_text : Window → Head → List Entry → List Told → List ℕ
+data_text w h es all =
+    head_lines h ++ window_line w
+    ++ flat_map (block_text (whole_blocks (length es) w) h.procs es all) (range_with_len 0 (block_count (length es)))

@@ -6,6 +6,7 @@ pub mod Known
 pub mod Places
 pub mod Lanes
 pub mod ParkedCalls
+pub mod Excerpt
 pub mod Ports
 pub mod Past
 pub mod Block

@@ -13,9 +13,9 @@ abbrev pub no_steps : Window
 no_steps = record { first = 0; end = 0 }
 
 -- the data, and the story without the lines of steps, between these texts
-abbrev pub in_frame : List ℕ → List ℕ → List ℕ → Head → List Entry → List Told → List ℕ
-in_frame before between after h es all = before ++ data_text h es all ++ between ++ story_text no_steps h es all ++ after
+abbrev pub in_frame : List ℕ → List ℕ → List ℕ → Window → Head → List Entry → List Told → List ℕ
+in_frame before between after w h es all = before ++ data_text w h es all ++ between ++ story_text no_steps h es all ++ after
 
--- of a journal with this head and these entries, of which this is told
-abbrev pub page_text : Head → List Entry → List Told → List ℕ
-page_text h es all = in_frame before_text between_text after_text h es all
+-- of these steps of a journal with this head and these entries, of which this is told
+abbrev pub page_text : Window → Head → List Entry → List Told → List ℕ
+page_text w h es all = in_frame before_text between_text after_text w h es all

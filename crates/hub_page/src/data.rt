@@ -5,7 +5,7 @@ ghost use Rattle.std.specs.List.{flat_map, range_with_len};
 ghost use Rattle.hub_base.specs.Head.{IsHead};
 ghost use Rattle.hub_base.specs.Reading.{head_lines};
 ghost use Rattle.hub_page.specs.Block.{IsBlock};
-ghost use Rattle.hub_page.specs.Data.{block_begin, block_count, block_text, data_text};
+ghost use Rattle.hub_page.specs.Data.{block_begin, block_count, block_text, data_text, whole_blocks, window_line};
 ghost use Rattle.hub_page.specs.Known.{IsKnown, entries_of, procs_of, told_of};
 ghost use Rattle.hub_page.specs.Past.{IsPast, IsRest};
 ghost use Rattle.hub_page.specs.Sketch.{sketch_words};
@@ -13,18 +13,19 @@ ghost use Rattle.hub_page.specs.Sketch.{sketch_words};
 use crate::block::Block;
 use crate::known::Known;
 use crate::limits::BLOCK;
+use crate::number::put_number;
 use crate::past::Past;
 use crate::sketch::{Sketch, put_sketch};
 use crate::step_lines::push_lines;
 use hub_base::{Head, NoMemory};
-use hub_story::Told;
+use hub_story::{Told, Window};
 use hub_story_text::PackedText;
 use hub_text::write_head;
 use std::alloc::Global;
 
 /// How many blocks so many steps have.
 fn block_count(count: usize) -> usize
-    requires { count < 2 ^ 32 - 1 }
+    requires { count < 2 ^ 32 }
     ensures value { result ≡ block_count count }
     ensures few { BLOCK * result < 2 ^ 33 }
 {
@@ -37,6 +38,17 @@ fn block_begin(count: usize, number: usize) -> usize
     ensures { result ≡ block_begin count number }
 {
     (BLOCK * number).min(count)
+}
+
+/// The blocks of so many steps of which the window has some, whole.
+pub(crate) fn whole_blocks(count: usize, window: Window) -> Window
+    requires { count < 2 ^ 32 - 1 }
+    ensures { result ≡ whole_blocks count window }
+{
+    Window {
+        first: block_begin(count, window.first as usize / BLOCK) as u32,
+        end: block_begin(count, block_count(window.end as usize)) as u32,
+    }
 }
 
 /// Appends the sketch of a block that ends before this place.
@@ -81,7 +93,7 @@ fn push_block<'a>(
     requires rest { IsRest (block_begin (length (entries_of known.now)) number) (told_of known.now) rest.now }
     requires past { IsPast known.now (block_begin (length (entries_of known.now)) number) past.old }
     ensures text { OnOk result (out.new.items ≡ out.old.items
-        ++ block_text (procs_of known.now) (entries_of known.now) (told_of known.now) number) }
+        ++ block_text known.now.window (procs_of known.now) (entries_of known.now) (told_of known.now) number) }
     ensures rest { IfOk result (λ rest. IsRest (block_begin (length (entries_of known.now)) (number + 1)) (told_of known.now) rest.now) }
     ensures past { OnOk result (IsPast known.now (block_begin (length (entries_of known.now)) (number + 1)) past.new) }
 {
@@ -105,7 +117,7 @@ fn push_blocks(
     requires few { length (entries_of known.now) < 2 ^ 32 - 1 }
     requires past { IsPast known.now 0 past.old }
     ensures { OnOk result (out.new.items ≡ out.old.items
-        ++ flat_map (block_text (procs_of known.now) (entries_of known.now) (told_of known.now))
+        ++ flat_map (block_text known.now.window (procs_of known.now) (entries_of known.now) (told_of known.now))
         (range_with_len 0 (block_count (length (entries_of known.now))))) }
 {
     let mut rest: &[Told] = &known.story.told;
@@ -126,20 +138,35 @@ fn push_head(out: &mut PackedText, line: &mut Vec<u8>, head: Head) -> Result<(),
     Ok(())
 }
 
-/// Appends the data of a journal.
+/// Appends which steps are asked for.
+fn push_window(out: &mut PackedText, line: &mut Vec<u8>, window: Window) -> Result<(), NoMemory>
+    ensures { OnOk result (out.new.items ≡ out.old.items ++ window_line window) }
+{
+    line.clear();
+    put_number(line, b"steps ", u64::from(window.first) + 1)?;
+    put_number(line, b" ", window.end.into())?;
+    line.extend_from_slice(b"\n")?;
+    out.push(line)?;
+    Ok(())
+}
+
+/// Appends the data of a page.
 pub(crate) fn push_data(
     out: &mut PackedText,
     alloc: Global,
     known: &Known<'_>,
+    window: Window,
 ) -> Result<(), NoMemory>
     requires known { IsKnown known.now }
+    requires window { known.now.window ≡ whole_blocks (length (entries_of known.now)) window }
     requires head { IsHead known.now.journal.now.head }
     requires few { length (entries_of known.now) < 2 ^ 32 - 1 }
     ensures { OnOk result (out.new.items ≡ out.old.items
-        ++ data_text known.now.journal.now.head (entries_of known.now) (told_of known.now)) }
+        ++ data_text window known.now.journal.now.head (entries_of known.now) (told_of known.now)) }
 {
     let mut past = Past::new(alloc, known)?;
     let mut line = Vec::new(alloc);
     push_head(out, &mut line, known.journal.head())?;
+    push_window(out, &mut line, window)?;
     push_blocks(out, &mut line, &mut past, known)
 }

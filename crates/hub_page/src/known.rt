@@ -4,10 +4,11 @@ ghost use Rattle.std.specs.Prelude.{◌≡◌, ◌<◌, length};
 ghost use Rattle.hub_page.specs.Known.{IsKnown, entries_of, told_of};
 ghost use Rattle.hub_story_text.specs.Partners.{partner_of};
 
+use crate::parked_calls::ParkedCalls;
 use hub_core::ShortJournal;
-use hub_story::ShortStory;
+use hub_story::{ShortStory, Window};
 
-/// A journal, its story, and for each entry the other one of the passage in which it stands.
+/// A journal, its story, for each entry the other one of the passage in which it stands, and which steps are told.
 #[derive(Clone, Copy)]
 pub(crate) struct Known<'a> {
     /// The journal.
@@ -16,6 +17,10 @@ pub(crate) struct Known<'a> {
     pub(crate) story: &'a ShortStory,
     /// The other entries.
     pub(crate) partners: &'a [Option<u32>],
+    /// The steps that are told, besides those without which they could not be understood.
+    pub(crate) window: Window,
+    /// Which calls wait when they begin.
+    pub(crate) waiting: &'a ParkedCalls,
 }
 
 impl<'a> Known<'a> {

@@ -6,6 +6,7 @@ mod counts;
 mod data;
 mod ends;
 mod entries;
+mod excerpt;
 mod known;
 mod lanes;
 mod levels;

@@ -1,15 +1,13 @@
 //! The lines of the steps, and what is known and counted behind each of them.
 
-ghost use Rattle.std.specs.Prelude.{◌≡◌, ◌≤◌, ◌<◌, ◌+◌, ◌-◌, ◌^◌, ◌++◌, codes, filter, length, IfOk, OnOk};
+ghost use Rattle.std.specs.Prelude.{◌≡◌, ◌≤◌, ◌<◌, ◌+◌, ◌-◌, ◌^◌, ◌++◌, filter, length, IfOk, OnOk};
 ghost use Rattle.std.specs.List.{flat_map};
 ghost use Rattle.hub_story.specs.Levels.{told_by};
 ghost use Rattle.hub_story.specs.Waiting.{is_stalled};
 ghost use Rattle.hub_story_text.specs.LastMoves.{AreLast};
 ghost use Rattle.hub_story_text.specs.StoryText.{came_by};
 ghost use Rattle.hub_page.specs.Block.{IsBlock, IsWhole};
-ghost use Rattle.hub_page.specs.Data.{line_at};
-ghost use Rattle.hub_page.specs.Ends.{told_words};
-ghost use Rattle.hub_page.specs.Entries.{entry_words};
+ghost use Rattle.hub_page.specs.Data.{full_line, line_at, step_line};
 ghost use Rattle.hub_page.specs.Known.{IsKnown, entries_of, procs_of, told_of};
 ghost use Rattle.hub_page.specs.Levels.{AreLevels};
 ghost use Rattle.hub_page.specs.Past.{IsPast, IsRest};
@@ -19,6 +17,7 @@ ghost use Rattle.hub_page.specs.Stalls.{stall_words};
 use crate::block::Block;
 use crate::ends::put_all_told;
 use crate::entries::put_entry;
+use crate::excerpt::is_told;
 use crate::known::Known;
 use crate::levels::Levels;
 use crate::past::Past;
@@ -52,8 +51,8 @@ fn put_stalled(
     )
 }
 
-/// Appends the line of the entry at this place, by whose step these events came.
-fn put_line(
+/// Appends all that is told of the entry at this place, by whose step these events came.
+fn put_full_line(
     out: &mut Vec<u8>,
     known: &Known<'_>,
     levels: &Levels,
@@ -65,16 +64,38 @@ fn put_line(
     requires known { IsKnown known.now }
     requires levels { AreLevels (entries_of known.now) (told_by (place + 1) (told_of known.now)) levels.now }
     requires last { AreLast (entries_of known.now) (told_by (place + 1) (told_of known.now)) last.now }
-    ensures { OnOk result (out.new.items ≡ out.old.items ++ (entry_words entry.now
-        ++ flat_map (told_words (entries_of known.now) (told_of known.now) place) came.now
-        ++ stall_words (entries_of known.now) (told_of known.now) place (filter (λ t. is_stalled t.event.what) came.now)
-        ++ codes "\n")) }
+    ensures { OnOk result (out.new.items ≡ out.old.items ++ full_line (entries_of known.now) (told_of known.now) place entry.now came.now
+        (filter (λ t. is_stalled t.event.what) came.now)) }
 {
     put_entry(out, entry)?;
     put_all_told(out, known, levels, place, came)?;
     put_stalled(out, known, last, place, came)?;
     out.extend_from_slice(b"\n")?;
     Ok(())
+}
+
+/// Appends its line, which is empty where the page does not tell the step.
+fn put_line(
+    out: &mut Vec<u8>,
+    known: &Known<'_>,
+    levels: &Levels,
+    last: &LastMoves,
+    place: u32,
+    entry: &EntryRef<'_>,
+    came: &[Told],
+) -> Result<(), NoMemory>
+    requires known { IsKnown known.now }
+    requires within { place < length (entries_of known.now) }
+    requires levels { AreLevels (entries_of known.now) (told_by (place + 1) (told_of known.now)) levels.now }
+    requires last { AreLast (entries_of known.now) (told_by (place + 1) (told_of known.now)) last.now }
+    ensures { OnOk result (out.new.items ≡ out.old.items ++ step_line known.now.window (procs_of known.now) (entries_of known.now) (told_of known.now) place entry.now came.now
+        (filter (λ t. is_stalled t.event.what) came.now)) }
+{
+    if is_told(known, place, entry, came) {
+        put_full_line(out, known, levels, last, place, entry, came)
+    } else {
+        Ok(out.extend_from_slice(b"\n")?)
+    }
 }
 
 /// Appends the line of the entry at this place, by whose step these events came, and takes in what it tells.
@@ -95,7 +116,7 @@ fn push_step(
     requires past { IsPast known.now place past.old }
     requires block { IsBlock (entries_of known.now) (told_of known.now) (procs_of known.now) place block.old }
     requires whole { IsWhole (procs_of known.now) block.old }
-    ensures text { OnOk result (out.new.items ≡ out.old.items ++ line_at (entries_of known.now) (told_of known.now) place) }
+    ensures text { OnOk result (out.new.items ≡ out.old.items ++ line_at known.now.window (procs_of known.now) (entries_of known.now) (told_of known.now) place) }
     ensures past { OnOk result (IsPast known.now (place + 1) past.new) }
     ensures block { OnOk result (IsBlock (entries_of known.now) (told_of known.now) (procs_of known.now) (place + 1) block.new) }
     ensures whole { OnOk result (IsWhole (procs_of known.now) block.new) }
@@ -142,7 +163,7 @@ pub(crate) fn push_lines<'a>(
     requires block { IsBlock (entries_of known.now) (told_of known.now) (procs_of known.now) block.old.first block.old }
     requires whole { IsWhole (procs_of known.now) block.old }
     ensures text { OnOk result (out.new.items ≡ out.old.items
-        ++ flat_map (line_at (entries_of known.now) (told_of known.now)) (places block.old.first end)) }
+        ++ flat_map (line_at known.now.window (procs_of known.now) (entries_of known.now) (told_of known.now)) (places block.old.first end)) }
     ensures rest { IfOk result (λ rest. IsRest end (told_of known.now) rest.now) }
     ensures past { OnOk result (IsPast known.now end past.new) }
     ensures block { OnOk result (IsBlock (entries_of known.now) (told_of known.now) (procs_of known.now) end block.new) }

@@ -21,10 +21,12 @@ loop-number-init c =
     })
 
 pub loop-number-preserved : goal.loop-number-preserved
-loop-number-preserved c = record {
-  rest = c.in_ok-rest.ensures.rest;
-  past = c.in_ok-rest.ensures.past;
-  text =
-      numbers-behind (block_text (procs_of c.args.known.now) (entries_of c.args.known.now) (told_of c.args.known.now)) c.loop-number.number _ _ _
-      c.loop-number.invariant.text c.in_ok-rest.ensures.text;
-}
+loop-number-preserved c =
+    let k = c.args.known.now in
+    record {
+      rest = c.in_ok-rest.ensures.rest;
+      past = c.in_ok-rest.ensures.past;
+      text =
+          numbers-behind (block_text k.window (procs_of k) (entries_of k) (told_of k)) c.loop-number.number _ _ _ c.loop-number.invariant.text
+          c.in_ok-rest.ensures.text;
+    }

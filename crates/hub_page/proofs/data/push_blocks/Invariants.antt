@@ -10,5 +10,5 @@ invariant-loop-number l = record {
   rest : IsRest (block_begin (length (entries_of l.known)) l.number) (told_of l.known) l.rest;
   past : IsPast l.known (block_begin (length (entries_of l.known)) l.number) l.past;
   text : l.out.items ≡ l.fn.out.items
-      ++ flat_map (block_text (procs_of l.known) (entries_of l.known) (told_of l.known)) (range_with_len 0 l.number);
+      ++ flat_map (block_text l.known.window (procs_of l.known) (entries_of l.known) (told_of l.known)) (range_with_len 0 l.number);
 }

@@ -14,5 +14,6 @@ invariant-loop-place l = record {
   block : IsBlock (entries_of l.known) (told_of l.known) (procs_of l.known) l.place l.block;
   whole : IsWhole (procs_of l.known) l.block;
   first : l.block.first ≡ l.fn.block.first;
-  text : l.out.items ≡ l.fn.out.items ++ flat_map (line_at (entries_of l.known) (told_of l.known)) (places l.fn.block.first l.place);
+  text : l.out.items ≡ l.fn.out.items
+      ++ flat_map (line_at l.known.window (procs_of l.known) (entries_of l.known) (told_of l.known)) (places l.fn.block.first l.place);
 }

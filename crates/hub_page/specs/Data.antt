@@ -1,14 +1,17 @@
 -- The data of a page: a line for each step, and behind the lines of each block of steps a sketch of the block. The line says what a step
 -- asks, and behind that what is told by it; it is empty where the page does not tell the step.
 use Rattle.std.specs.Prelude.{ℕ, ◌+◌, ◌-◌, ◌*◌, ◌/◌, min, List, [], ◌++◌, codes, decimal, length, slice_get, if◌then◌else◌}
+use Rattle.std.specs.Prelude.{Option, None, Some}
 use Rattle.std.specs.List.{flat_map, range_with_len}
 use Rattle.std.specs.Option.{option_map_or}
 use Rattle.hub_base.specs.declared.head.Head.{Head}
+use Rattle.hub_base.specs.declared.value.Pid.{Pid}
 use Rattle.hub_base.specs.Entry.{Entry}
 use Rattle.hub_base.specs.Reading.{head_lines}
 use Rattle.hub_story.specs.declared.told.Told.{Told}
 use Rattle.hub_story.specs.declared.window.Window.{Window}
 use Rattle.hub_story.specs.Waiting.{stalled_by}
+use Rattle.hub_story_text.specs.Clock.{clock_of}
 use Rattle.hub_story_text.specs.StoryText.{came_by}
 use Rattle.hub_page.specs.declared.limits.TheConstants.{BLOCK}
 use Rattle.hub_page.specs.Entries.{entry_words}
@@ -52,12 +55,17 @@ block_text w procs es all number =
 abbrev pub whole_blocks : ℕ → Window → Window
 whole_blocks count w = record { first = block_begin count (w.first / BLOCK); end = block_begin count (block_count w.end) }
 
--- the steps of the window, which are counted from 1
-abbrev pub window_line : Window → List ℕ
-window_line w = codes "steps " ++ decimal (w.first + 1) ++ codes " " ++ decimal w.end ++ codes "\n"
+-- the clock, where the journal has one
+abbrev pub clock_words : Option Pid → List ℕ
+clock_words None = []
+clock_words (Some clock) = codes " clock " ++ decimal clock.0
+
+-- the steps of the window, which are counted from 1, and the clock
+abbrev pub window_line : Window → Option Pid → List ℕ
+window_line w clock = codes "steps " ++ decimal (w.first + 1) ++ codes " " ++ decimal w.end ++ clock_words clock ++ codes "\n"
 
 -- of a journal with this head and these entries, of which this is told; the steps of this window are asked for
 abbrev pub data_text : Window → Head → List Entry → List Told → List ℕ
 data_text w h es all =
-    head_lines h ++ window_line w
+    head_lines h ++ window_line w (clock_of h es)
     ++ flat_map (block_text (whole_blocks (length es) w) h.procs es all) (range_with_len 0 (block_count (length es)))

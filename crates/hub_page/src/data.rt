@@ -5,7 +5,7 @@ ghost use Rattle.std.specs.List.{flat_map, range_with_len};
 ghost use Rattle.hub_base.specs.Head.{IsHead};
 ghost use Rattle.hub_base.specs.Reading.{head_lines};
 ghost use Rattle.hub_page.specs.Block.{IsBlock};
-ghost use Rattle.hub_page.specs.Data.{block_begin, block_count, block_text, data_text, whole_blocks, window_line};
+ghost use Rattle.hub_page.specs.Data.{block_begin, block_count, block_text, clock_words, data_text, whole_blocks, window_line};
 ghost use Rattle.hub_page.specs.Known.{IsKnown, entries_of, procs_of, told_of};
 ghost use Rattle.hub_page.specs.Past.{IsPast, IsRest};
 ghost use Rattle.hub_page.specs.Sketch.{sketch_words};
@@ -17,11 +17,11 @@ use crate::number::put_number;
 use crate::past::Past;
 use crate::sketch::{Sketch, put_sketch};
 use crate::step_lines::push_lines;
-use hub_base::{Head, NoMemory};
+use hub_base::{Head, NoMemory, Pid};
 use hub_story::{Told, Window};
-use hub_story_text::PackedText;
+use hub_story_text::{PackedText, clock_of};
 use hub_text::write_head;
-use std::alloc::Global;
+use std::alloc::{AllocError, Global};
 
 /// How many blocks so many steps have.
 fn block_count(count: usize) -> usize
@@ -138,13 +138,29 @@ fn push_head(out: &mut PackedText, line: &mut Vec<u8>, head: Head) -> Result<(),
     Ok(())
 }
 
-/// Appends which steps are asked for.
-fn push_window(out: &mut PackedText, line: &mut Vec<u8>, window: Window) -> Result<(), NoMemory>
-    ensures { OnOk result (out.new.items ≡ out.old.items ++ window_line window) }
+/// Appends which process is the clock, if one is.
+fn put_clock(out: &mut Vec<u8>, clock: Option<Pid>) -> Result<(), AllocError>
+    ensures { OnOk result (out.new.items ≡ out.old.items ++ clock_words clock) }
+{
+    match clock {
+        Some(clock) => put_number(out, b" clock ", clock.0.into()),
+        None => Ok(()),
+    }
+}
+
+/// Appends which steps are asked for, and which process is the clock.
+fn push_window(
+    out: &mut PackedText,
+    line: &mut Vec<u8>,
+    window: Window,
+    clock: Option<Pid>,
+) -> Result<(), NoMemory>
+    ensures { OnOk result (out.new.items ≡ out.old.items ++ window_line window clock) }
 {
     line.clear();
     put_number(line, b"steps ", u64::from(window.first) + 1)?;
     put_number(line, b" ", window.end.into())?;
+    put_clock(line, clock)?;
     line.extend_from_slice(b"\n")?;
     out.push(line)?;
     Ok(())
@@ -167,6 +183,6 @@ pub(crate) fn push_data(
     let mut past = Past::new(alloc, known)?;
     let mut line = Vec::new(alloc);
     push_head(out, &mut line, known.journal.head())?;
-    push_window(out, &mut line, window)?;
+    push_window(out, &mut line, window, clock_of(known.journal))?;
     push_blocks(out, &mut line, &mut past, known)
 }

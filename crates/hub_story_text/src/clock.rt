@@ -99,7 +99,7 @@ fn keeps_time(pid: Pid, entries: &ShortEntries) -> bool
 }
 
 /// The clock of a journal, if it has one.
-pub(crate) fn clock_of(journal: &ShortJournal) -> Option<Pid>
+pub fn clock_of(journal: &ShortJournal) -> Option<Pid>
     ensures { result ≡ clock_of journal.now.head journal.now.entries }
 {
     let head = journal.head();

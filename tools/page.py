@@ -1,7 +1,7 @@
 #!/usr/bin/env python3
-"""The page of a journal, by the rules and nothing else.
+"""The page of a journal, or of some of its steps, by the rules and nothing else.
 
-    page.py JOURNAL > page.html
+    page.py [FROM [TO]] JOURNAL > page.html
 
 It is a second reading of viewer/README.md, written from the lines of a journal and from the events that model.py gives of it, to
 compare `chanhub_tool page` with. It takes well-formed journals only.
@@ -42,10 +42,10 @@ class Port:
 
 
 class Move:
-    """An item on a value that moved; of one that was received, who sent it may be told later by the same step."""
+    """An item on a value that a step sent or received; of one that was received, who sent it may be told later by the same step."""
 
-    def __init__(self, words, port, sender):
-        self.words, self.port, self.sender = words, port, sender
+    def __init__(self, words, port, step):
+        self.words, self.port, self.step, self.sender = words, port, step, None
 
 
 def told(letter, number):
@@ -76,22 +76,27 @@ class Sketch:
 
 
 class Data:
-    """Writes the data of a journal, line by line."""
+    """The data of a journal, line by line, of which those of steps that are not told are empty. A window is its first step and the last."""
 
-    def __init__(self, lines, write):
-        lines = iter(lines)
-        head, procs = next(lines).rstrip("\n"), next(lines).rstrip("\n")
-        self.procs = int(procs.split()[1])
+    def __init__(self, lines, write, window=None):
+        head, procs, *lines = (line.rstrip("\n") for line in lines)
+        first, last = window or (1, len(lines))
+        self.procs, self.window = int(procs.split()[1]), range(first - 1, last)
         self.hub = model.Hub(int(head.split()[2]), self.procs)
         self.ports, self.waiting = collections.defaultdict(Port), {}  # by process, in the order of arrival
-        self.sketch, end = Sketch(0), 0
-        write(f"{head}\n{procs}\n")
-        for end, line in enumerate(lines, 1):
-            write(self.line(end - 1, line.rstrip("\n")))
-            if end % BLOCK == 0:
-                write(self.end_block(end))
-        if end % BLOCK:
-            write(self.end_block(end))
+        self.sketch, self.told = Sketch(0), set(self.window)
+        texts, sketches = [], []
+        for place, line in enumerate(lines):
+            if place == self.window.start:
+                self.told |= {step.place for step in self.waiting.values()}
+            texts.append(self.line(place, line))
+            if (place + 1) % BLOCK == 0 or place + 1 == len(lines):
+                sketches.append(self.end_block(place + 1))
+        write(f"{head}\n{procs}\nsteps {first} {last}\n")
+        for place, text in enumerate(texts):
+            write(text if place in self.told else "\n")
+            if (place + 1) % BLOCK == 0 or place + 1 == len(texts):
+                write(sketches[place // BLOCK])
 
     def lane(self, step):
         """One stands for all processes that there are not."""
@@ -113,6 +118,8 @@ class Data:
         self.hub.step(own.pid, word, asked)
         events, self.hub.events = self.hub.events, []
         items, stalled = [], []
+        if word in ("make", "exit"):
+            self.told.add(place)
         for number, event in enumerate(events):
             pid, *words = event.split(" ")
             step = self.waiting.pop(int(pid)) if number else own
@@ -121,6 +128,8 @@ class Data:
             else:
                 items.append(self.end(place, step, words))
                 self.sketch.wait(self.lane(step), step.place, place)
+                if words == ["stalled"] or place >= self.window.start and step.place < self.window.stop:
+                    self.told.add(place)
                 self.sketch.troubles[self.lane(step)] += words[0] in ("stalled", "fault") or words[-1] == "closed"
             if words == ["stalled"]:
                 stalled.append(step)
@@ -143,22 +152,28 @@ class Data:
     def move(self, text, step, case):
         """The first value that was sent is the first that is received; of both ends either may be told first."""
         port = self.ports[case[1]]
-        item = Move(text, case[1], None)
+        item = Move(text, case[1], step)
         if case[0] == "s":
             port.count, port.sender = port.count + 1, step
             self.sketch.sent[case[1]] += 1
             if port.not_sent:
-                port.not_sent.popleft().sender = step.place
+                self.passed(step, port.not_sent.popleft())
             else:
-                port.not_received.append(step.place)
+                port.not_received.append(step)
         else:
             port.count, port.receiver = port.count - 1, step
             self.sketch.got[case[1]] += 1
             if port.not_received:
-                item.sender = port.not_received.popleft()
+                self.passed(port.not_received.popleft(), item)
             else:
                 port.not_sent.append(item)
         return item
+
+    def passed(self, sender, item):
+        """A step sent what another one received: each is told if the other one is in the window."""
+        item.sender, ends = sender.place, {sender.place, item.step.place}
+        if not ends.isdisjoint(self.window):
+            self.told |= ends
 
     def text(self, place, item):
         if isinstance(item, str):
@@ -185,20 +200,25 @@ def joined(names):
     return "".join(map(text_of, names))
 
 
-def write_page(lines, write):
+def write_page(lines, write, window=None):
     lines = [line.rstrip("\n") for line in lines]
     write(joined(BEFORE))
-    Data(lines, write)
+    Data(lines, write, window)
     write(joined(BETWEEN))
     write(story_model.Story("\n".join(lines)).text(1, 0).decode())
     write(joined(AFTER))
 
 
 def main():
-    if len(sys.argv) != 2 or sys.argv[1].startswith("-"):
+    *steps, name = sys.argv[1:] or [""]
+    if not name or len(steps) > 2 or not all(step.isdigit() for step in steps) or name.startswith("-"):
         sys.exit(__doc__.split("\n\n")[1])
-    with open(sys.argv[1], encoding="ascii") as journal:
-        write_page(journal, sys.stdout.write)
+    with open(name, encoding="ascii") as journal:
+        lines = journal.readlines()
+    window = [int(step) for step in steps]
+    if window and not 1 <= window[0] <= window[-1] <= len(lines) - 2:
+        sys.exit("no such steps")
+    write_page(lines, sys.stdout.write, (window[0], window[-1]) if window else None)
 
 
 if __name__ == "__main__":

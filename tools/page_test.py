@@ -168,6 +168,49 @@ class Browser:
 # ---- what a page has to show
 
 
+class Part(picture.Journal):
+    """A journal of whose steps a page tells some: those of a window, and others by the rules of viewer/README.md, read here again."""
+
+    def __init__(self, text, first, last):
+        super().__init__(text)
+        self.window, self.told = range(first - 1, last), set(range(first - 1, last))
+        for one in super().asked():
+            by = one.ended.by if one.ended else NEVER
+            if one.place < self.window.start <= by or one.line.split()[1] in ("make", "exit"):
+                self.told.add(one.place)
+            if one.ended and (words_of(one) == "stalled" or by >= self.window.start and one.place < self.window.stop):
+                self.told.add(by)
+        self.told |= {one[0] for _, *both in self.passages() for one, other in (both, reversed(both)) if other[0] in self.window}
+        self.as_told = [self.known(one) for one in super().asked()]
+
+    def asked(self):
+        return self.as_told
+
+    def known(self, one):
+        """Of a call whose end is not told it is known that it sent, but for a select not by which case; who got an unknown value got one."""
+        words = words_of(one)
+        if " got " in words and self.sender(one.place) is None:
+            return one._replace(ended=one.ended._replace(event=one.ended.event[: one.ended.event.index(" got ")] + " got a value"))
+        if one.ended is None or one.ended.by in self.told:
+            return one
+        return one._replace(ended=picture.Told(math.nan, one.ended.event if len(one.cases) == 1 else one.line.split()[0] + " sent"))
+
+    def sender(self, place):
+        """Who sent what a step received, if that and the value are told."""
+        sent = next(sent for _, sent, received in self.passages() if received[0] == place)
+        return sent[0] if sent[0] in self.told and (sent[1] in self.told or len(picture.cases_of(self.lines[sent[0]])) == 1) else None
+
+    def holds(self, port):
+        """Whether it is known how many values a port holds in the window: the edge of a block tells it, or a step by which one moves."""
+        first, end = self.window.start, self.window.stop
+        at_edge = first % BLOCK == 0 or end >= min(len(self.lines), first // BLOCK * BLOCK + BLOCK)
+        return at_edge or any(by in self.window for side in "sr" for _, by, _ in self.moved[side][port])
+
+
+def is_told(journal, *places):
+    return not isinstance(journal, Part) or all(place in journal.told for place in places)
+
+
 def words_of(asked):
     """What a step was told at last."""
     return asked.ended.event.split(" ", 1)[1] if asked.ended else ""
@@ -188,7 +231,7 @@ def value_of(asked):
     """The value that a step moved, as the journal spells it."""
     line, end = asked.line.split(), words_of(asked)
     if " got " in end:
-        return end.split(" got ")[1]
+        return None if end.endswith(" got a value") else end.split(" got ")[1]
     if not end.endswith(" sent"):
         return None
     return line[3] if line[1] == "send" else line[3 + int(end.split()[1])].split(":")[1]
@@ -222,6 +265,11 @@ def held_after(journal, port, step):
     return sent[len(received) :]
 
 
+def known_of(journal, sends):
+    """Of these sends those by steps of the window."""
+    return [place for place in sends if not isinstance(journal, Part) or journal.asked()[place].ended.by >= journal.window.start]
+
+
 def pid_at(journal, place):
     return int(journal.lines[place].split()[0])
 
@@ -231,8 +279,10 @@ def guess_of(journal, by, pid, case):
     value it holds, if that one is stalled too and does not wait to send there; or else for whom pictures name."""
     stalled = {other: picture.cases_of(journal.lines[asked]) for step, other, asked in journal.stalls if step == by}
     passed = [(sent[0], received[0]) for port, sent, received in journal.passages() if port == int(case[1]) and received[1] <= by]
+    if case[0] == "s" and passed and not is_told(journal, *passed[-1]):
+        return None
     is_lock = case[0] == "s" and passed and pid_at(journal, passed[-1][0]) == pid_at(journal, passed[-1][1])
-    owners = [pid_at(journal, place) for place in held_after(journal, int(case[1]), by)] if is_lock else []
+    owners = [pid_at(journal, place) for place in known_of(journal, held_after(journal, int(case[1]), by))] if is_lock else []
     owner = next((one for one in owners if one in stalled and case not in stalled[one]), None)
     if owner is not None:
         return owner
@@ -242,7 +292,7 @@ def guess_of(journal, by, pid, case):
 def guesses(journal):
     """Of each stall who perhaps waits for whom."""
     for by, pid, asked in journal.stalls:
-        for case in picture.cases_of(journal.lines[asked]):
+        for case in picture.cases_of(journal.lines[asked]) if not isinstance(journal, Part) or by in journal.window else []:
             other = guess_of(journal, by, pid, case)
             if other is not None:
                 yield by, pid, other
@@ -286,10 +336,10 @@ def held_lines(journal, by):
     asked = journal.asked()
     for port in dict.fromkeys(int(port) for place in stalled for side, port in asked[place].cases if side == "s"):
         held = held_after(journal, port, by)
-        told = "; ".join(f"{readable(value_of(asked[place]))}, sent by P{pid_at(journal, place)} at step {place + 1}"
-            for place in held[:4])
-        if held:
-            yield f"port {port} holds {told}" + (f"; and {len(held) - 4} more" if len(held) > 4 else "")
+        known = known_of(journal, held)
+        told = [f"{readable(value_of(asked[place]))}, sent by P{pid_at(journal, place)} at step {place + 1}" for place in known[:4]]
+        if held and not (isinstance(journal, Part) and not journal.holds(port)):
+            yield f"port {port} holds {len(held)} value{'s' if len(held) > 1 else ''}" + (": " if told else "") + "; ".join([*told, *[".."][: len(known) > 4]])
 
 
 def stalled_lines(journal, by):
@@ -399,10 +449,10 @@ def title_of(one, count):
     return f"step {one.place + 1}: {one.line}\n{told}" + (f", waited {steps} step{'' if steps == 1 else 's'}" if waits else "")
 
 
-def bars_of(drawn, asked, first, end, left):
+def bars_of(drawn, journal, first, end, left):
     """Each call that waits, from where to where, and whether it ends."""
-    edge = drawn.width + 2
-    for one in asked:
+    asked, edge = journal.asked(), drawn.width + 2
+    for one in asked if not isinstance(journal, Part) else [one for one in asked if one.place in journal.told]:
         until = len(asked) if one.ended is None else one.ended.by
         if one.place < until and one.place < end and until >= first:
             begin = max(left, drawn.x(one.place))
@@ -410,10 +460,13 @@ def bars_of(drawn, asked, first, end, left):
 
 
 def levels_of(drawn, journal, first, end):
-    for level in held(journal):
-        until = len(journal.lines) if level.until is None else level.until
-        if level.first < end and until >= first:
-            left = max(64.0, drawn.x(level.first))
+    count, window = len(journal.lines), journal.window if isinstance(journal, Part) else range(len(journal.lines))
+    known = [level for level in held(journal) if window.start == 0 or journal.holds(level.port)]
+    unknown = [picture.Held(port, 0, None, journal.room[port]) for port in drawn.ports if window.start > 0 and not journal.holds(port)]
+    for level in known + unknown:
+        until, since = min(count if level.until is None else level.until, window.stop), max(level.first, window.start - 1)
+        if since < min(end, window.stop) and until >= max(first, window.start):
+            left = max(64.0, drawn.x(since))
             yield left, max(left + 1, min(float(drawn.width), drawn.x(until))), level.port, 16.0 * level.count / journal.room[level.port]
 
 
@@ -432,8 +485,9 @@ def dash_of(one):
     return "4px, 3px" if one.ended is None else "2px, 3px" if end.endswith(" drained") else "1px, 2px" if end == "cancelled" else "none"
 
 
-def check_boxes(drawn, asked, first, end):
-    boxes = {one.place: one for one in asked[first:end]}
+def check_boxes(drawn, journal, first, end):
+    asked = journal.asked()
+    boxes = {one.place: one for one in asked[first:end] if is_told(journal, one.place)}
     agree("box", [(shape.x + shape.width / 2, drawn.lane(shape.middle())) for shape in drawn.kind("box")],
           [(drawn.x(one.place), drawn.pid(one.line)) for one in boxes.values()])
     for shape in drawn.kind("box"):
@@ -451,34 +505,37 @@ def check_boxes(drawn, asked, first, end):
 
 
 def check_shapes(drawn, journal, first, end):
-    asked, colours, dots = journal.asked(), drawn.colours, drawn.dots
-    check_boxes(drawn, asked, first, end)
-    bars = list(bars_of(drawn, asked, first, end, 62.0))
+    colours, dots = drawn.colours, drawn.dots
+    check_boxes(drawn, journal, first, end)
+    bars = list(bars_of(drawn, journal, first, end, 62.0))
     agree("bar", [(float(shape.x), float(shape.right()), drawn.lane(shape.middle())) for shape in drawn.kind("bar")], [bar[1:] for bar in bars])
-    agree("knob", [(float(shape.cx), drawn.lane(shape.cy)) for shape in drawn.kind("knob")], [(right, lane) for one, _, right, lane in bars if one.ended])
+    agree("knob", [(float(shape.cx), drawn.lane(shape.cy)) for shape in drawn.kind("knob")], [
+        (right, lane) for one, _, right, lane in bars if one.ended and one.ended.by < end])
     agree("arrow", [(shape.way[0], shape.way[-2], drawn.lane(shape.way[1]), drawn.lane(shape.way[-1]), shape.stroke) for shape in drawn.kind("arrow")], [
         (drawn.x(sent[1]), drawn.x(received[1]), drawn.pid(sent[2]), drawn.pid(received[2]), colours["h%d" % (port % 8)])
-        for port, sent, received in journal.passages() if first <= sent[1] < end or first <= received[1] < end])
+        for port, sent, received in journal.passages() if is_told(journal, *sent[:2], *received[:2])
+        and (first <= sent[1] < end or first <= received[1] < end)])
     agree("level", [(float(shape.x), float(shape.right()), drawn.port(shape.y + shape.height - 8), float(shape.height)) for shape in drawn.kind("level")],
           list(levels_of(drawn, journal, first, end)), 0.6)
     agree("stall", [(shape.x + shape.width / 2, drawn.lane(shape.middle())) for shape in drawn.kind("field")], [
-        (drawn.x(by), pid) for by, pid, _ in journal.stalls if first <= by < end])
+        (drawn.x(by), pid) for by, pid, asked in journal.stalls if first <= by < end and is_told(journal, asked)])
     told = {(shape.way[0], drawn.lane(shape.way[1]), drawn.lane(shape.way[-1])) for shape in drawn.kind("guess")}
     agree("guess", told, {(drawn.x(by) + min(66, dots * 0.9) / 2 + 3, pid, other) for by, pid, other in guesses(journal) if first <= by < end})
 
 
 def check_canvas(drawn, journal, first, end):
     """The same of more steps, where a box is a rectangle without an edge, and there are no arrows."""
-    asked, rects = journal.asked(), [call for call in drawn.calls if call.name == "fillRect"]
+    rects = [call for call in drawn.calls if call.name == "fillRect"]
     bottom, width = max(drawn.lanes.values()) + 8, max(1, drawn.dots * 0.9)
     lanes = [call.words for call in rects if call.words[1] < bottom]
     as_wide = [words for words in lanes if abs(words[2] - width) < 0.01]
     height = max((words[3] for words in as_wide), default=0)
     boxes = [words for words in as_wide if words[3] >= 4 and words[3] == height]
-    agree("box", [(x + w / 2, drawn.lane(y + h / 2)) for x, y, w, h in boxes], [(drawn.x(one.place), drawn.pid(one.line)) for one in asked[first:end]])
+    agree("box", [(x + w / 2, drawn.lane(y + h / 2)) for x, y, w, h in boxes], [
+        (drawn.x(one.place), drawn.pid(one.line)) for one in journal.asked()[first:end] if is_told(journal, one.place)])
     thin = min((words[3] for words in lanes), default=0)
     bars = [words for words in lanes if words[3] == thin and words not in boxes]
-    agree("bar", [(float(x), float(x + w), drawn.lane(y + h / 2)) for x, y, w, h in bars], [bar[1:] for bar in bars_of(drawn, asked, first, end, 62.0)])
+    agree("bar", [(float(x), float(x + w), drawn.lane(y + h / 2)) for x, y, w, h in bars], [bar[1:] for bar in bars_of(drawn, journal, first, end, 62.0)])
     levels = [call.words for call in rects if call.words[1] >= bottom]
     agree("level", [(float(x), float(x + w), drawn.port(y + h - 8), float(h)) for x, y, w, h in levels], list(levels_of(drawn, journal, first, end)), 0.6)
 
@@ -498,20 +555,20 @@ def drawn_at(browser, journal, first, steps):
 TOOLS = []  # the program that writes pages, if one is given
 
 
-def page_of(text):
-    """The page of a journal, which the program writes as page.py does."""
+def page_of(text, window=None):
+    """The page of a journal, or of the steps from one to another, which the program writes as page.py does."""
     made = []
-    page.write_page(text.splitlines(), made.append)
+    page.write_page(text.splitlines(), made.append, window)
     wanted = "".join(made)
     for tool in TOOLS:
-        told = subprocess.run([tool, "page"], input=text.encode(), stdout=subprocess.PIPE, check=True).stdout.decode()
+        told = subprocess.run([tool, "page", *map(str, window or ())], input=text.encode(), stdout=subprocess.PIPE, check=True).stdout.decode()
         at = next((at for at, (one, other) in enumerate(zip(told, wanted)) if one != other), min(len(told), len(wanted)))
         assert told == wanted, f"{told[at - 40:at + 40]!r} and not {wanted[at - 40:at + 40]!r}"
     return wanted
 
 
-def open_page(browser, text, path):
-    path.write_text(page_of(text))
+def open_page(browser, text, path, window=None):
+    path.write_text(page_of(text, window))
     browser.open(path)
 
 
@@ -553,6 +610,82 @@ def check_random(browser, count, work, seed):
     count.run(f"search in random journal {seed}", lambda: check_search(browser, journal))
     count.run(f"ways in random journal {seed}", lambda: check_ways(browser, journal))
     count.run(f"panel of random journal {seed}", lambda: check_panel(browser, journal, draw))
+    first = draw(total)
+    window = first + 1, first + 1 + draw(min(90, total - first))
+    check_part(browser, count, work, text, f"random journal {seed}", window, [(0, total), (max(0, first - 5), 30)])
+
+
+def check_part(browser, count, work, text, name, window, several):
+    """A page of some steps: it opens with them in view; nothing that is not told is drawn, found, chosen or said."""
+    journal = Part(text.encode(), *window)
+    open_page(browser, text, work / "part.html", window)
+    name = f"steps {window[0]} to {window[1]} of {name}"
+
+    def test(drawn, at):
+        (check_shapes if drawn.dots * 500 >= drawn.width - 108 else check_canvas)(drawn, journal, *at)
+        check_fields(browser, drawn, journal)
+
+    opened = browser.value("[page.view.first, page.view.steps, (page.view.width - 64) / 90]")
+    steps = min(len(journal.lines), max(len(journal.window), opened[2]))
+    count.test(f"{name} are in view", close(opened[:2], [float(min(journal.window.start, len(journal.lines) - steps)), float(steps)], 0.5), opened)
+    for view in [tuple(opened[:2]), *several]:
+        count.run(f"{name}: view {view}", lambda: test(*drawn_at(browser, journal, *view)))
+    count.run(f"{name}: what is told", lambda: check_told(text, journal))
+    count.run(f"{name}: search", lambda: check_search(browser, journal))
+    count.run(f"{name}: panel", lambda: check_part_panel(browser, journal))
+
+
+def check_fields(browser, drawn, journal):
+    """Pale fields stand where the columns of the steps before the window and behind it are in view, and say so."""
+    told = browser.value("""["early", "late"].map((id) => document.getElementById(id)).map((one) => [one.offsetLeft, one.offsetWidth, one.textContent])""")
+    count, dots = len(journal.lines), drawn.dots / 2
+    for (left, width, text), (first, end) in zip(told, ((0, journal.window.start), (journal.window.stop, count))):
+        begin, until = max(64, drawn.x(first) - dots), min(drawn.width, drawn.x(end) - dots)
+        wanted = [begin, until - begin] if until > begin else [left, 0]
+        assert close([float(left), float(width)], wanted, 1.1), f"a field {left} {width} and not {wanted}"
+        assert width == 0 or text == f"not told: steps {first + 1} to {end}, but for boxes", text
+
+
+def check_told(text, journal):
+    lines = data_of(text, (journal.window.start + 1, journal.window.stop)).splitlines()
+    assert lines[2] == f"steps {journal.window.start + 1} {journal.window.stop}", lines[2]
+    whole = data_of(text).splitlines()[3:]
+    steps = [line for line in zip(lines[3:], whole) if not line[1].startswith("~")]
+    for place, (told, line) in enumerate(steps):
+        assert told == (line if place in journal.told else ""), f"step {place + 1}: {told!r}"
+    assert [told for told, line in zip(lines[3:], whole) if line[0] == "~"] == [line for line in whole if line[0] == "~"], "sketches"
+
+
+JUNK = re.compile("null|undefined|NaN|Infinity|\\[object")
+
+
+def check_part_panel(browser, journal):
+    """What the panel says of steps that are told, and that others are not."""
+    whole, (first, end) = browser.value("document.getElementById('panel').innerText"), (journal.window.start, journal.window.stop)
+    count = len(journal.lines)
+    wanted = [f"Steps {first + 1} to {end} are told, and of the others those that bear on them."] if end - first < count else [""]
+    told = texts(browser, "#told")
+    assert told == wanted and not JUNK.search(whole), (told, whole)
+    inside = sorted(journal.told & set(journal.window))
+    outside = sorted(journal.told - set(journal.window))
+    for place in [*inside[:2], *inside[-2:], *outside[:: len(outside) // 8 + 1], *{by for by, _, _ in journal.stalls}]:
+        browser.value(f"page.choose({place})")
+        said = browser.value("document.getElementById('panel').innerText")
+        assert title(browser) == f"Step {place + 1} of P{pid_at(journal, place)}" and not JUNK.search(said), (place + 1, JUNK.search(said), said)
+        before = [f"{one.place + 1} {one.line}" for one in journal.asked()[max(0, place - 6) : place] if one.place in journal.told]
+        said = texts(browser, "#before li")
+        assert len(said) == len(before) and all(map(str.startswith, said, before)), f"before step {place + 1}: {said} and not {before}"
+    for place in {by for by, _, _ in journal.stalls} & set(journal.window):
+        browser.value(f"page.choose({place})")
+        for id, lines in ("full", held_lines(journal, place)), ("stalled", stalled_lines(journal, place)):
+            said, lines = texts(browser, f"#{id} li"), [line.strip() for line in lines]
+            assert said == lines, f"{id} at step {place + 1}: {said} and not {lines}"
+    for place in sorted(set(range(count)) - journal.told)[:3]:
+        shown = title(browser)
+        browser.value(f"page.choose({place})")
+        assert texts(browser, "#none") == [f"Step {place + 1} is not told."] and title(browser) == shown, (place, texts(browser, "#none"))
+    browser.value("page.choose(null)")
+    assert texts(browser, "#none") == [""] and title(browser) == "The whole", texts(browser, "#none")
 
 
 def check_long(browser, count, work, seed, total):
@@ -576,6 +709,8 @@ def check_long(browser, count, work, seed, total):
     count.run(f"search in long journal {seed}", lambda: check_search(browser, journal))
     count.run(f"ways in long journal {seed}", lambda: check_ways(browser, journal))
     count.run(f"panel of long journal {seed}", lambda: check_panel(browser, journal, draw))
+    window = total // 3, total // 3 + 700
+    check_part(browser, count, work, text, f"long journal {seed}", window, [(0, total), (window[0] - 30, 100), (window[1] - 30, 60), (total - 50, 50)])
 
 
 def check_edges(browser, count, work):
@@ -658,9 +793,9 @@ def check_notices(browser, count, work):
 # ---- the data
 
 
-def data_of(text):
+def data_of(text, window=None):
     lines = []
-    page.Data(text.splitlines(), lines.append)
+    page.Data(text.splitlines(), lines.append, window)
     return "".join(lines)
 
 
@@ -806,12 +941,13 @@ def check_search(browser, journal):
     port_of = lambda one: {int(port) for _, port in one.cases} | ({int(one.line.split()[2])} if one.line.split()[1] == "close" else set()) | ({int(words_of(one)[5:])} if words_of(one).startswith("made") else set())
     values = [value_of(one) for one in asked if value_of(one)]
     value = values[len(values) // 2] if values else "17"
+    stalling = {by for by, _, _ in journal.stalls}
     queries = {
         "P1": lambda one: int(one.line.split()[0]) == 1,
         "port 2": lambda one: 2 in port_of(one),
         "=" + value: lambda one: value_of(one) == value,
         "stalled": lambda one: words_of(one) == "stalled",
-        "deadlocks": lambda one: words_of(one) == "stalled",
+        "deadlocks": lambda one: one.place in stalling,
         "P1 before 60": lambda one: int(one.line.split()[0]) == 1 and one.place < 59,
         "cancelled": lambda one: words_of(one) == "cancelled",
         "step 60": lambda one: one.place == 59,
@@ -821,7 +957,7 @@ def check_search(browser, journal):
         "select": lambda one: one.line.split()[1] == "select",
     }
     for (words, test), told in zip(queries.items(), found(browser, *queries, "")):
-        wanted = [one.place for one in asked if test(one)]
+        wanted = [one.place for one in asked if is_told(journal, one.place) and test(one)]
         assert told == wanted, f"{words}: {told[:9]} and not {wanted[:9]}"
 
 
@@ -872,20 +1008,20 @@ def check_locks(browser, count, work):
     browser.value(f"page.choose({first}); page.paint()")
     full, stalled = texts(browser, "#full li"), texts(browser, "#stalled li")
     count.test("what full ports hold",
-        full == ["port 1 holds 0, sent by P0 at step 22", "port 2 holds 2, sent by P2 at step 21"], full)
+        full == ["port 1 holds 1 value: 0, sent by P0 at step 22", "port 2 holds 1 value: 2, sent by P2 at step 21"], full)
     wanted = [f"P{pid}, step {step} waits to send {pid} on port {port}; perhaps for P{other}"
         for pid, step, port, other in ((1, 23, 1, 0), (2, 24, 1, 0), (0, 25, 2, 2))]
     count.test("guesses by what they hold", stalled == wanted, stalled)
-    told = texts(browser, "#stall p")
-    count.test("how it is guessed is told", len(told) == 1 and "guess" in told[0]
-        and browser.value("document.querySelector('#stall p').checkVisibility()"), told)
+    told = texts(browser, "#stall details")
+    count.test("how it is guessed is told", len(told) == 1 and "is a guess" in told[0]
+        and browser.value("document.querySelector('#stall summary').checkVisibility()"), told)
     drawn = Drawn(browser, journal.procs)
     arcs = {(drawn.lane(shape.way[1]), drawn.lane(shape.way[-1])) for shape in drawn.kind("guess")
         if abs(shape.way[0] - drawn.x(first)) < drawn.dots}
     count.test("arcs are these guesses", arcs == {(0, 2), (1, 0), (2, 0)}, arcs)
     browser.value(f"page.choose({second})")
     full, stalled = texts(browser, "#full li"), texts(browser, "#stalled li")
-    wanted = "port 3 holds " + "".join(f"{n}, sent by P0 at step {16 + n}; " for n in range(4)) + "and 1 more"
+    wanted = "port 3 holds 5 values: " + "".join(f"{n}, sent by P0 at step {16 + n}; " for n in range(4)) + ".."
     count.test("a port that holds many values", full == [wanted], full)
     count.test("no guess names who does the same",
         stalled == ["P2, step 27 waits to send 9 on port 3", "P0, step 28 waits to send 8 on port 3"], stalled)
@@ -903,7 +1039,7 @@ def check_results(browser, count, work):
     open_page(browser, RESULTS, work / "results.html")
     browser.value("page.choose(8)")
     full, stalled = texts(browser, "#full li"), texts(browser, "#stalled li")
-    count.test("a port of results holds one", full == ["port 1 holds 12, sent by P1 at step 6"], full)
+    count.test("a port of results holds one", full == ["port 1 holds 1 value: 12, sent by P1 at step 6"], full)
     wanted = ["P1, step 7 waits to receive from port 2", "P2, step 8 waits to send 21 on port 1; perhaps for P0",
         "P0, step 9 waits to receive from port 3"]
     count.test("results wait for who takes them", stalled == wanted, stalled)
@@ -928,7 +1064,7 @@ def check_sevens(browser, count, work):
     browser.value("page.find('=7')")
     browser.settle()
     heading, moves = texts(browser, "#way"), texts(browser, "#moves li")
-    count.test("equal values are not called a way", heading == ["Moves of 7: 9 of 9 moves"] and len(moves) == 5, (heading, moves))
+    count.test("equal values are not called a way", heading == ["Moves of 7: 9 of 9 steps"] and len(moves) == 5, (heading, moves))
     count.test("a value that stays", moves[-1] == "port 1: sent by P3, step 16, stays there", moves)
 
 
@@ -1007,7 +1143,7 @@ def check_follow(browser, count, path):
     told = texts(browser, "#moves li")
     count.test("the stages of a value are told in order", told == stages, told)
     heading = browser.value("document.getElementById('way').textContent")
-    count.test("the way has a name", heading == "The way of 120: 6 of 6 moves", heading)
+    count.test("the way has a name", heading == "The way of 120: 6 of 6 steps", heading)
     browser.key("n")
     count.test("the next stage", title(browser) == f"Step {first + 4} of P2", title(browser))
     browser.key("p")
@@ -1212,7 +1348,7 @@ def check_find(browser, count):
     told = look("=99")
     panel = browser.value("((none) => none.checkVisibility() && none.textContent)(document.getElementById('none'))")
     count.test("the panel says that nothing is found", told[0] == "none"
-        and panel == "Nothing is found by =99. Find knows words as P3, port 2, =17, stalled, step 60; Help has all. "
+        and panel == "No value 99 moved. Find knows words as P3, port 2, =17, stalled, step 60; Help has all. "
         "What was chosen stays:", (told, panel))
     browser.key("Escape")
     count.test("Escape ends a search", browser.value("[page.words, document.getElementById('find').value]") == ["", ""])
@@ -1300,7 +1436,7 @@ def million_data(steps):
     """So many steps, a multiple of those of a block."""
     half = BLOCK // 2
     first = "0m0;0m1\n0m4;0m2\n" + EXCHANGES * (half - 1) + f"~P0w{half - 1}a{half + 1}P1a{half - 1}p1s{half - 1}g{half - 1}\n"
-    return "chanhub journal 1\nprocs 2\n" + first + (EXCHANGES * half + f"~P0w{half}a{half}P1a{half}p1s{half}g{half}\n") * (steps // BLOCK - 1)
+    return f"chanhub journal 1\nprocs 2\nsteps 1 {steps}\n" + first + (EXCHANGES * half + f"~P0w{half}a{half}P1a{half}p1s{half}g{half}\n") * (steps // BLOCK - 1)
 
 
 def million(steps):

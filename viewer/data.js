@@ -1,14 +1,11 @@
-// Reads the data of the page, as README.md defines them. Steps are counted from 0 here, and from 1 in what is shown.
+// Reads the data of the page, as README.md defines them. Steps are counted from 0 here, and from 1 in what is shown. One that is not told is null.
 const BLOCK = 64, MOST_READ = 300, MOST_OWN = 1000, NEVER = 0xffffffff, STILL_WAITS = { by: Infinity, letter: "", number: 0 };
 const WORDS = { m: "make", s: "send", r: "recv", "?": "select", c: "close", x: "cancel", e: "exit" };
 const ENDS = { s: "sent", g: "got", d: "drained", c: "closed", D: "default", k: "done", S: "stalled", x: "cancelled", m: "made", f: "fault" };
 const TABLES = { w: "waited", a: "asked", t: "troubles", o: "open", s: "sent", g: "got", m: "most" };  // by letters of sketches
 const numbers = (first, end) => Array.from({ length: Math.max(0, end - first) }, (_, at) => first + at);
 class Step {
-    constructor(journal, place, entry) {
-        const [, pid, letter, more] = /(\d+)(.)(.*)/.exec(entry);
-        [this.journal, this.place, this.pid, this.letter, this.more] = [journal, place, Number(pid), letter, more];
-    }
+    constructor(journal, place, [, pid, letter, more]) { Object.assign(this, { journal, place, pid: Number(pid), letter, more }); }
     // By which step it ended and how: a letter of ENDS, the number of the case, of the port made or of the fault, and who sent what it got.
     get end() { return this.known ??= this.journal.endOf(this); }
     endsBy(letters) { return this.end.letter !== "" && letters.includes(this.end.letter); }
@@ -33,7 +30,7 @@ class Step {
     }
     get answer() {
         const { letter, number } = this.end, reason = letter === "f" && document.querySelector(`#faults li:nth-child(${number})`).textContent;
-        return (ENDS[letter] ?? "waits to the end") + ({ g: ` ${readable(this.value)}`, m: ` ${number}`, f: ` ${number}: ${reason}` }[letter] ?? "");
+        return [ENDS[letter] ?? "waits to the end", { g: readable(this.value) ?? "a value", m: number, f: `${number}: ${reason}` }[letter]].join(" ").trim();
     }
     get title() { return `step ${this.place + 1}: ${this.line}\n${this.answer}${this.waits ? ", waited " + counted(this.waited, "step") : ""}`; }
     get port() { return { f: 0, m: this.end.number }[this.end.letter] ?? (this.letter === "c" ? Number(this.more) : this.shown.port); }
@@ -44,58 +41,47 @@ class Step {
         return ended ?? (side ? side + port : { "?": "?", e: "exit" }[this.letter] ?? this.letter + this.more);
     }
 }
-class Block {  // steps, ends by them, receivers by senders, who sent on each port in order, levels, and stalls
-    constructor(journal, at) {
-        Object.assign(this, { steps: [], ends: new Map(), receivers: new Map(), senders: {}, levels: [], stalls: {}, sender: null });
-        for (const line of journal.text.slice(...journal.bounds[at]).split("\n")) {
-            const [entry, ...items] = line.split(";"), place = at * BLOCK + this.steps.length;
-            this.steps.push(new Step(journal, place, entry));
-            for (const item of items) this.readItem(place, .../(\d+)(.)(\d*).?(\d*)/.exec(item).slice(1));
+function readBlock(journal, at) {  // steps, ends by them in their order, levels, and stalls
+    const block = { steps: [], ends: new Map(), levels: [], stalls: {} }, stall = (place) => block.stalls[place] ??= { place, calls: [], last: [] };
+    for (const [row, line] of journal.text.slice(...journal.bounds[at]).split("\n").entries()) {
+        const [first, ...items] = line.split(";"), place = at * BLOCK + row, entry = /(\d+)(.)(.*)/.exec(first);
+        block.steps.push(entry && new Step(journal, place, entry));
+        for (const [, one, sign, two, three] of items.map((item) => /(\d+)(.)(\d*).?(\d*)/.exec(item))) {
+            if (sign === ":") block.levels.push({ port: Number(one), from: place, count: Number(two) });
+            else if (sign === ">") stall(place).last.at(-1).other = Number(two);
+            else if (sign === "L") stall(place).last.push({ port: Number(one), movers: [two, three].map((back) => (back ? place - back : NaN)) });
+            else block.ends.set(place - one, { by: place, letter: sign, number: Number(two), sender: place - three });
+            if (sign === "S") stall(place).calls.push(place - one);
         }
     }
-    readItem(place, one, sign, two, three) {
-        if (sign === ":" && this.sender !== null) (this.senders[one] ??= []).push(this.sender);
-        if (sign === ":") this.levels.push({ port: Number(one), from: place, count: Number(two) });
-        else if (sign === ">") this.stall(place).last.at(-1).other = Number(two);
-        else if (sign !== "L") this.end(place, place - one, sign, Number(two), place - three);
-        else this.stall(place).last.push({ port: Number(one), movers: [two, three].map((back) => (back ? place - back : null)) });
-    }
-    end(by, call, letter, number, sender) {
-        this.ends.set(call, { by, letter, number, sender });
-        this.sender = letter === "s" ? call : null;
-        if (letter === "g") this.receivers.set(sender, call);
-        if (letter === "S") this.stall(by).calls.push(call);
-    }
-    stall(place) { return this.stalls[place] ??= { place, calls: [], last: [] }; }
+    return block;
 }
 class Journal {
     constructor(text) {
-        const procs = Number(/procs (\d+)/.exec(text)[1]), lanes = procs + 1, bounds = [], next = (at) => text.indexOf("\n", at) + 1;
-        for (let at = next(next(0)), sketch; (sketch = text.indexOf("~", at)) > 0; at = next(sketch)) bounds.push([at, sketch - 1]);
+        const [procs, from, end] = /procs (\d+)\nsteps (\d+) (\d+)/.exec(text).slice(1).map(Number), next = (at) => text.indexOf("\n", at) + 1;
+        const lanes = procs + 1, bounds = [];
+        for (let at = next(next(next(0))), sketch; (sketch = text.indexOf("~", at)) > 0; at = next(sketch)) bounds.push([at, sketch - 1]);
         const steps = bounds.length && (bounds.length - 1) * BLOCK + text.slice(...bounds.at(-1)).split("\n").length;
-        Object.assign(this, { text, procs, lanes, bounds, steps, blocks: bounds.length, read: new Map(), exits: Array(lanes).fill(null) });
-        const makes = this.placesOf(";0m"), last = this.blocks * lanes;
+        Object.assign(this, { text, procs, lanes, first: from - 1, end, bounds, steps, blocks: bounds.length, read: new Map() });
+        const makes = this.placesOf(";0m"), last = this.blocks * lanes, gone = this.placesOf("e;0k");
         this.readSketches(makes.length + 1);
-        for (const place of this.placesOf("e;0k")) this.exits[this.step(place).pid] = place;
-        // The rooms of ports, 0 of those that never held a value; and what each process asked and waited, and all that there are not if any asked.
-        const rooms = makes.map((place, at) => (this.mostOf(at + 1, 0, steps) ? Number(this.step(place).more) : 0));
-        const asks = [...this.asked.subarray(last)].filter((count, lane) => lane < procs || count > 0);
+        const rooms = makes.map((place, at) => (this.mostOf(at + 1, 0, steps) ? Number(this.step(place).more) : 0));  // 0 if it never held a value
+        const asks = [...this.asked.subarray(last)].filter((count, lane) => lane < procs || count > 0);  // behind them processes that there are not
+        const exits = numbers(0, lanes).map((pid) => gone.find((place) => this.step(place).pid === pid) ?? null);
         const waits = asks.map((_, lane) => this.waited[last + lane] - (this.open[last + lane] !== NEVER));
-        Object.assign(this, { ports: makes.length, stalls: this.placesOf("S"), rooms, asks, waits });
+        Object.assign(this, { ports: makes.length, stalls: this.placesOf("S"), rooms, asks, waits, exits });
     }
     placesOf(letters) {  // the steps in whose lines these letters stand
-        return this.bounds.flatMap(([first, end], block) => {
-            const text = this.text.slice(first, end), lines = text.includes(letters) ? text.split("\n") : [];
-            return [...lines.keys()].filter((at) => lines[at].includes(letters)).map((at) => block * BLOCK + at);
-        });
+        const linesOf = (text) => (text.includes(letters) ? text.split("\n") : []), placeOf = (line, at) => (line.includes(letters) ? at : []);
+        return this.bounds.flatMap((bounds, block) => linesOf(this.text.slice(...bounds)).flatMap(placeOf).map((at) => block * BLOCK + at));
     }
     readSketches(width) {  // a row tells what was before a block, and the most that ports held in the block before
         const { text, bounds, lanes } = this, widths = { waited: lanes, asked: lanes, troubles: lanes, open: lanes, sent: width, got: width, most: width };
         for (const [name, width] of Object.entries(widths)) this[name] = new Uint32Array((bounds.length + 1) * width);
         Object.assign(this, { width }).open.fill(NEVER);
         for (const [block, [, behind]] of bounds.entries()) this.readSketch(block, text.slice(behind + 2, text.indexOf("\n", behind + 1)));
-        const add = (sums, width) => { for (let at = width; at < sums.length; at++) sums[at] += sums[at - width]; };
-        for (const name of ["waited", "asked", "troubles", "sent", "got"]) add(this[name], widths[name]);
+        for (const [sums, width] of ["waited", "asked", "troubles", "sent", "got"].map((name) => [this[name], widths[name]]))
+            for (let at = width; at < sums.length; at++) sums[at] += sums[at - width];
         for (let at = width; at < this.most.length; at++) this.most[at] = Math.max(this.most[at], this.sent[at - width] - this.got[at - width]);
     }
     readSketch(block, sketch) {  // A sketch is letters with numbers; what follows a process or a port is of it
@@ -109,72 +95,80 @@ class Journal {
     endOfBlock(at) { return Math.min(this.steps, (at + 1) * BLOCK); }
     block(at) {
         if (this.read.size > MOST_READ) this.read.clear();
-        return this.read.get(at) ?? this.read.set(at, new Block(this, at)).get(at);
+        return this.read.get(at) ?? this.read.set(at, readBlock(this, at)).get(at);
     }
-    step(place) { return place >= 0 && place < this.steps ? this.block(this.blockAt(place)).steps[place % BLOCK] : null; }
+    step(place) { return place >= 0 && place < this.steps ? this.block(this.blockAt(place)).steps[place % BLOCK] : undefined; }
     stepsOf(first, end) { return numbers(first, end).map((place) => this.step(place)); }
-    endOf({ place, lane }) {
+    endOf({ place, lane, cases }) {  // a call whose end alone is not told sent what a step of the window received
         let at = this.blockAt(place);
         while (at < this.blocks && this.open[(at + 1) * this.lanes + lane] === place) at++;
-        return at < this.blocks ? this.block(at).ends.get(place) : STILL_WAITS;
+        return at === this.blocks ? STILL_WAITS : this.block(at).ends.get(place) ?? { by: NaN, letter: "s", number: cases.length > 1 ? -1 : 0, block: at };
     }
-    receiverOf({ place, end, shown: { port } }) {  // the k-th value that is sent on a port is the k-th that is received
-        let at = this.blockAt(end.by);
-        const before = this.sent[at * this.width + port] + this.block(at).senders[port].indexOf(place);
-        while (at < this.blocks && this.got[(at + 1) * this.width + port] <= before) at++;
-        return at < this.blocks ? this.step(this.block(at).receivers.get(place)) : null;
+    receiverOf({ place, end, shown: { port } }) {  // it is told where no more values were received before than had been sent
+        const { sent, got, width } = this, begin = end.block ?? this.blockAt(end.by), most = sent[(begin + 1) * width + port];
+        const receiverIn = (at) => [...this.block(at).ends].find(([, { letter, sender }]) => letter === "g" && sender === place);
+        for (let at = begin, row = at * width + port, found; at < this.blocks && got[row] < most; at++, row += width)
+            if (got[row + width] > got[row] && (found = receiverIn(at))) return this.step(found[0]);
+        return null;
     }
     goingOn(first, end) {  // the steps that were asked before the second one and went on until the first one at least
-        const at = this.blockAt(first), waiting = [...this.open.subarray(at * this.lanes, (at + 1) * this.lanes)].filter((place) => place !== NEVER);
-        return [...waiting, ...numbers(at * BLOCK, end)].map((place) => this.step(place)).filter((step) => step.end.by >= first);
+        const at = this.blockAt(first), waiting = this.open.subarray(at * this.lanes, (at + 1) * this.lanes);
+        return [...waiting, ...numbers(at * BLOCK, end)].map((place) => this.step(place)).filter((step) => step?.end.by >= first);
     }
     endsOf(first, end) { return this.goingOn(first, end).filter((step) => step.end.by < end); }
     stallAt(place) { return this.block(this.blockAt(place)).stalls[place]; }
     stallsOf(first, end) { return this.stalls.filter((place) => place >= first && place < end).map((place) => this.stallAt(place)); }
-    levelBefore(at, port) { return this.sent[at * this.width + port] - this.got[at * this.width + port]; }
-    *blocksWith(table, width, column, at, direction) {  // in which a number grows, from one on (1) or back (-1)
-        for (; at >= 0 && at < this.blocks; at += direction)
-            if (table[(at + 1) * width + column] > table[at * width + column]) yield this.block(at);
+    isInside(place) { return place >= this.first && place < this.end; }
+    get told() { return this.end - this.first < this.steps ? ", as far as it is told" : ""; }  // what is said of all steps
+    levelBefore(place, port) {  // what a port holds before a step of the window, or when it ends; NaN if that is not told
+        const at = Math.min(this.blockAt(place), this.blocks - 1), held = (at) => this.sent[at * this.width + port] - this.got[at * this.width + port];
+        const own = this.block(at).levels.filter((one) => one.port === port && this.isInside(one.from)), known = own.findLast(({ from }) => from < place);
+        if (known || at * BLOCK >= this.first) return known?.count ?? held(at);
+        const moves = (letter) => [...this.block(at).ends.values()].filter((end) => end.by === own[0].from && end.letter === letter).length;
+        return own.length ? own[0].count - moves("s") + moves("g") : this.end < this.endOfBlock(at) ? NaN : held(at + 1);
     }
-    heldAt(place, port) {  // the steps that sent what a port holds after a step, oldest first
-        const at = this.blockAt(place), level = this.block(at).levels.findLast((level) => level.port === port && level.from <= place);
-        const sends = this.blocksWith(this.sent, this.width, port, at, -1).flatMap(({ senders }) => senders[port].toReversed());
-        return [...sends.map((send) => this.step(send)).filter(({ end }) => end.by <= place).take(level?.count ?? this.levelBefore(at, port))].reverse();
+    *blocksWith(table, width, column, at, direction, least = 0) {  // in which a number grows, from one on (1) or back (-1)
+        for (; at >= least && at < this.blocks; at += direction)
+            if (table[(at + 1) * width + column] > table[at * width + column]) yield at;
+    }
+    heldAt(place, port) {  // how many values a port holds after a step of the window, and the steps that sent them in it, oldest first
+        const isOwn = ([, { by, letter }]) => letter === "s" && by <= place && by >= this.first, count = this.levelBefore(place + 1, port) || 0;
+        const sends = this.blocksWith(this.sent, this.width, port, this.blockAt(place), -1, this.blockAt(this.first))
+            .flatMap((at) => [...this.block(at).ends].filter(isOwn).reverse()).map(([call]) => this.step(call)).filter((step) => step.port === port);
+        return { count, held: [...sends.take(count)].reverse() };
     }
     casesOf({ place, calls, last }) {  // a guess: a port of which one took its own value back last is a lock, and its value's sender has it
+        if (!this.isInside(place)) return last;
         const steps = calls.map((call) => this.step(call)), all = steps.flatMap((step) => step.offers.map((offer) => ({ step, offer })));
         return all.map(({ step, offer }, at) => {
-            const held = offer[0] === "s" ? this.heldAt(place, last[at].port) : [], taker = this.step(last[at].movers[1] ?? NaN);
-            const isOther = ({ pid }) => steps.some((other) => other.pid === pid && !other.offers.includes(offer));
-            const holder = taker && taker.sender.pid === taker.pid ? held.find(isOther) : null;
-            return { ...last[at], step, held, other: holder?.pid ?? last[at].other };
+            const { port, movers: [, taker], other } = last[at], { sender, pid } = this.step(taker) ?? {};
+            const own = offer[0] === "s" ? this.heldAt(place, port) : { count: 0, held: [] }, isKnown = sender || !(taker >= 0) || offer[0] === "r";
+            const isOwner = (send) => sender && sender.pid === pid && steps.some((one) => one.pid === send.pid && !one.offers.includes(offer));
+            return { ...last[at], ...own, step, offer, other: isKnown ? own.held.find(isOwner)?.pid ?? other : -1 };
         });
     }
     mostOf(port, first, end) {
         return numbers(this.blockAt(first), Math.ceil(end / BLOCK)).reduce((most, at) => Math.max(most, this.most[(at + 1) * this.width + port]), 0);
     }
-    firstMost(port) {  // after which step it first held the most that it ever does
-        const most = this.mostOf(port, 0, this.steps), at = numbers(0, this.blocks).find((at) => this.most[(at + 1) * this.width + port] === most);
-        return this.block(at).levels.find((level) => level.port === port && level.count === most)?.from;
-    }
-    stepsOfProcess({ place, pid, lane }, direction) {  // behind a step (1) or before it (-1), the nearest first
+    stepsOfProcess({ place, pid, lane }, direction) {  // behind a step (1) or before it (-1), the nearest first; null for each that is not told
+        const placesOf = (at) => numbers(at * BLOCK, this.endOfBlock(at)).filter((at) => (at - place) * direction > 0);
         return this.blocksWith(this.asked, this.lanes, lane, this.blockAt(place), direction)
-            .flatMap(({ steps }) => (direction > 0 ? steps : steps.toReversed())).filter((step) => step.pid === pid && (step.place - place) * direction > 0);
+            .flatMap((at) => (direction > 0 ? placesOf(at) : placesOf(at).reverse())).map((at) => this.step(at)).filter((step) => !step || step.pid === pid);
     }
     *wayOf(sender) {  // who sends what it got, before it gets another, passes it on
         const near = (step, direction) => this.stepsOfProcess(step, direction).take(MOST_OWN), { value } = sender;
         for (let got = sender; got?.value === value; yield [])
-            [sender, got] = [got.sender, near(got.sender, -1).find((step) => step.endsBy("g"))];
+            [sender, got] = [got.sender, near(got.sender, -1).find((step) => !step || step.endsBy("g"))];
         const sends = [sender];
         for (const send of sends) {
             yield [send, send.receiver].filter(Boolean);
             for (const step of send.receiver ? near(send.receiver, 1) : []) {
-                if (step.endsBy("g")) break;
+                if (!step || step.endsBy("g")) break;
                 if (step.value === value) sends.push(step);
             }
         }
     }
-    *allSteps() { for (const at of numbers(0, this.blocks)) yield this.block(at).steps; }
+    *allSteps() { for (const at of numbers(0, this.blocks)) yield this.block(at).steps.filter(Boolean); }
     share(name, lane, first, end) { return (this.before(name, lane, end) - this.before(name, lane, first)) / (end - first); }
     before(name, lane, step) {  // how many steps a process waited or asked before a step, by the tables
         const at = Math.min(this.blocks - 1, this.blockAt(step)), part = (step - at * BLOCK) / (this.endOfBlock(at) - at * BLOCK);
@@ -186,12 +180,4 @@ function readable(value) {  // bytes as text where they are UTF-8 without contro
     if (!value?.startsWith("#")) return value;
     const bytes = (value.match(/[^#]./g) ?? []).map((two) => parseInt(two, 16)), text = UTF_8.decode(Uint8Array.from(bytes));
     return /[\p{C}\p{Zl}\p{Zp}\ufffd]/u.test(text) ? value : `\u201c${text}\u201d`;
-}
-function testOf(word) {  // of what is typed in Find: whether a step is meant
-    const [, kind, digits] = /^(P|step |before |waited |port )(\d+)$/i.exec(word) ?? [], number = Number(digits), text = word.slice(1);
-    if (word[0] === "=") return ({ value }) => value === text || value?.[0] === "#" && readable(value) === `\u201c${text}\u201d`;
-    const asked = /^deadlocks?$/i.test(word) ? "stalled" : word, end = Object.keys(ENDS).find((letter) => ENDS[letter] === asked);
-    const numbered = { p: ({ pid }) => pid === number, step: ({ place }) => place === number - 1, before: ({ place }) => place < number - 1,
-        port: ({ ports }) => ports.includes(number), waited: (step) => step.waits && step.waited === number };
-    return numbered[kind?.trim().toLowerCase()] ?? (end ? (step) => step.end.letter === end : (step) => step.title.includes(word));
 }

@@ -1,25 +1,24 @@
 // The page: what is chosen, and what search, links, wheel, mouse and keys do.
 const byId = (id) => document.getElementById(id), ENDMOST = ["first", "last"], KNOWN = `Find knows words as ${byId("find").placeholder}; Help has all.`;
 class Page {
-    constructor(journal, story) {
-        const view = new View(journal, () => this.draw());
+    constructor(journal, story, view = new View(journal, () => this.draw())) {
         const ownStep = (direction) => this.chosen && journal.stepsOfProcess(this.chosen, direction).next().value?.place;
         tellWhole(journal, story);
-        Object.assign(this, { journal, view, painter: new Painter(this, view, journal), chosen: null, words: "", found: [], marks: new Set(), dragged: 0 });
+        Object.assign(this, { journal, story, view, painter: new Painter(this, view, journal), words: "", found: [], marks: new Set(), dragged: 0 });
         this.keys = {
             ArrowLeft: () => view.pan(-view.steps / 8), ArrowRight: () => view.pan(view.steps / 8), 0: () => view.show(0, journal.steps),
             Home: () => view.show(0, view.steps), End: () => view.show(journal.steps, view.steps), Escape: () => [this.endFind(), this.choose(null)],
-            "+": () => view.zoom(0.7), "-": () => view.zoom(1 / 0.7), "/": () => [byId("find").focus(), byId("find").select()],
-            "?": () => byId("help").showModal(), g: () => this.choose(this.chosen?.partner?.place), w: () => this.choose(this.chosen?.end.by),
-            j: () => this.choose(this.chosen ? this.chosen.place + 1 : Math.ceil(view.first)), k: () => this.choose(this.chosen?.place - 1),
-            J: () => this.choose(ownStep(1)), K: () => this.choose(ownStep(-1)), Enter: () => this.goFound(1),
+            "+": () => view.zoom(0.7), "-": () => view.zoom(1 / 0.7), J: () => this.choose(ownStep(1)), K: () => this.choose(ownStep(-1)),
+            j: () => this.choose(this.chosen ? this.chosen.place + 1 : Math.ceil(view.first)), g: () => this.choose(this.chosen?.partner?.place),
+            k: () => this.choose((this.chosen?.place ?? Math.floor(view.first + view.steps)) - 1), w: () => this.choose(this.chosen?.end.by),
             f: () => (!this.chosen?.value || this.isFollowing && this.words[0] !== "=" ? this.endFind() : location.assign(`#${wayLink(this.chosen)}`)),
+            "/": () => [byId("find").focus(), byId("find").select()], "?": () => byId("help").showModal(), Enter: () => this.goFound(1),
             n: () => this.goFound(1), p: () => this.goFound(-1), "<": () => this.goFound(0, null), ">": () => this.goFound(-1, null),
         };
         document.title = byId("journal").textContent = location.pathname.split("/").pop().replace(/\.html$/, "").replace(/%../g, "_");
         new ResizeObserver(() => this.layOut()).observe(byId("scroll"));
         this.layOut();
-        this.readLink();
+        this.readLink({ from: journal.first + 1, to: journal.end });
     }
     layOut() {
         Object.assign(this.view, { width: byId("scroll").clientWidth, height: byId("scroll").clientHeight - 4 });
@@ -32,15 +31,14 @@ class Page {
         this.writing = setTimeout(() => this.writeLink(), 200);
     }
     paint() {
-        const { view, painter } = this, percent = (steps) => `${100 * steps / Math.max(1, this.journal.steps)}%`;
         this.frame = cancelAnimationFrame(this.frame);
-        painter.paint(byId("lanes"), byId("far"), byId("axis"));
-        Object.assign(byId("window").style, { left: percent(view.first), width: percent(view.steps) });
+        this.painter.paint(byId("lanes"), byId("far"), byId("axis"));
     }
-    choose(place) {  // chooses the step at a place if it is there, or none
-        if (place !== null && !(place >= 0 && place < this.journal.steps)) return;
-        this.chosen = place === null ? null : this.journal.step(place);
-        if (this.chosen) [this.view.reveal(place), tellStep(this.chosen, this)];
+    choose(place) {  // chooses the step at a place if it is told, or none
+        const step = this.journal.step(place ?? NaN);
+        byId("none").textContent = step === null ? `Step ${place + 1} is not told.` : "";
+        if (!step && place !== null) return;
+        if ((this.chosen = step)) [this.view.reveal(place), tellStep(step, this)];
         [byId("step").hidden, byId("whole").hidden] = [!this.chosen, !!this.chosen];
         this.draw();
     }
@@ -54,11 +52,11 @@ class Page {
     }
     async find(words) {  // search, list by list, so that the page stays awake: all steps, or those of the way of a value
         const { journal } = this, [, way] = /^way (\d+)$/i.exec(words) ?? [], start = journal.step(way - 1)?.sender, found = [];
-        const parts = way ? [] : words.match(/(port|step|before|waited) \d+|P\d+|=\S+|\S+/gi) ?? [], isEnd = (part) => ENDMOST.includes(part);
-        const tests = parts.filter((part) => !isEnd(part)).map((part) => testOf(part));
+        const parts = way ? [] : words.match(/(port|step|before|waited) \d+|P\d+|=\S+|\S+/gi) ?? [], isAt = (end) => parts.some((part) => end.test(part));
+        const tests = parts.filter((part) => !ENDMOST.includes(part)).map((part) => testOf(part));
         let told = performance.now();
         Object.assign(this, { words, found, marks: new Set() });
-        for (const steps of start ? journal.wayOf(start) : words && !way ? journal.allSteps() : []) {
+        for (const steps of start?.value ? journal.wayOf(start) : words && !way ? journal.allSteps() : []) {
             for (const step of steps) if (tests.every((test) => test(step))) found.push(step.place);
             if (performance.now() - told < 15) continue;
             byId("count").textContent = `${found.length}, searching`;
@@ -67,7 +65,7 @@ class Page {
             told = performance.now();
         }
         this.marks = new Set(found);
-        this.goFound(parts.includes("last") ? -1 : 0, parts.some(isEnd) ? null : this.chosen);
+        this.goFound(isAt(/^(last$|before )/i) ? -1 : 0, isAt(/^(first$|last$|before )/i) ? null : this.chosen);
         this.layOut();
     }
     goFound(direction, from = this.chosen) {
@@ -75,8 +73,9 @@ class Page {
         const next = own < 0 ? (behind < 0 ? found.length : behind) - (direction < 0) : own + direction, at = (next + found.length) % found.length;
         const begin = from && direction === 0 ? `, ${own < 0 && behind < 0 ? "none " : ""}from step ${from.place + 1} on` : "";
         byId("count").textContent = found.length ? `${at + 1} of ${found.length}${begin}` : words && "none";
-        byId("none").textContent = found.length || !words ? "" : `Nothing is found by ${words}. ${KNOWN}${from ? " What was chosen stays:" : ""}`;
         if (found.length || this.chosen) this.choose(found[at] ?? this.chosen.place);
+        const nothing = (words[0] === "=" ? `No value ${words.slice(1)} moved` : `Nothing is found by ${words}`) + this.journal.told;
+        byId("none").textContent = words && !found.length ? `${nothing}. ${KNOWN}${from ? " What was chosen stays:" : ""}` : "";
     }
     async countTies(words, told) {
         await this.find(byId("find").value = words);
@@ -89,8 +88,8 @@ class Page {
         const { view: { first, steps }, words: find, chosen } = this, parts = { from: Math.round(first) + 1, to: Math.round(first + steps) };
         history.replaceState(null, "", `#${new URLSearchParams(Object.assign(parts, find && { find }, chosen && { step: chosen.place + 1 }))}`);
     }
-    readLink() {
-        const { step, find, from, to } = Object.fromEntries(new URLSearchParams(location.hash.slice(1)));
+    readLink(opening) {
+        const { step, find, from, to } = { ...opening, ...Object.fromEntries(new URLSearchParams(location.hash.slice(1))) };
         if (Number(from) <= Number(to)) this.view.show(from - 1, to - from + 1);
         this.choose(step ? step - 1 : null);
         if (find && find !== this.words) this.find(byId("find").value = find).then(() => step && this.choose(step - 1));
@@ -102,7 +101,7 @@ class Page {
     }
     click({ target: { dataset: { link, strip } }, offsetX }) {
         if (link) location.hash = link;
-        else if (strip) this.choose(this.journal.firstMost(Number(strip)));
+        else if (strip) this.choose(new RegExp(`^port ${strip} .* most \\d+ at step (\\d+)`, "m").exec(this.story)?.[1] - 1);
         else if (this.view.steps > MOST_NEAR && offsetX >= LEFT) this.view.reveal(this.view.stepAt(offsetX));
     }
     wheel({ shiftKey, deltaX, deltaY, offsetX }) {

@@ -1,28 +1,33 @@
 // Draws what is in view: from near by shapes that tell what they are, from farther off on a canvas. Colours are those of style.css.
 const HUES = 8, COLUMN = 2, hueOf = (port) => (port ? "h" + port % HUES : "edge");
-const sign = (element, attributes) => Object.entries(attributes).forEach(([name, value]) => element.setAttribute(name, value));
-function node(tag, { title, ...attributes }, ...inside) {
-    const made = document.createElementNS("http://www.w3.org/2000/svg", tag);
-    sign(made, attributes);
-    made.append(...(title ? [node("title", {}, title)] : []), ...inside);
-    return made;
+function html(parts, ...values) {  // in which each value is text, unless it is HTML or a list of it
+    const escaped = (value) => String(value || value === 0 ? value : "").replace(/[&<>"]/g, (letter) => `&#${letter.charCodeAt()};`);
+    const inside = (value) => (Array.isArray(value) ? value.map(inside).join("") : value?.html ?? escaped(value));
+    return { html: String.raw({ raw: parts }, ...values.map(inside)) };
+}
+const put = (texts) => Object.entries(texts).forEach(([id, text]) => Object.assign(byId(id), { innerHTML: html`${text}`.html }));
+function shape(tag, { title, ...more }, text) {
+    const signs = Object.entries(more).map(([name, value]) => html` ${{ html: name }}="${value}"`);
+    return html`<${{ html: tag }}${signs}>${title && html`<title>${title}</title>`}${text}</${{ html: tag }}>`;
 }
 class Painter {
     constructor(page, view, journal) { Object.assign(this, { page, view, journal }); }
     paint(lanes, canvas, axis) {
-        this.view.arrange();
+        const { view, journal } = this, isNear = view.steps <= MOST_NEAR, isFar = view.steps > MOST_SHAPES;
+        view.arrange();
         this.paintAxis(axis);
-        const { view } = this, { width, bottom: height } = view, isNear = view.steps <= MOST_NEAR;
-        const clip = { x: LEFT - 2, viewBox: `${LEFT - 2} 0 ${width} ${height}`, width, height };
-        sign(lanes, { height, class: `${this.page.isFollowing ? "following" : ""} ${isNear ? "" : "far"}` });
-        lanes.replaceChildren(...this.names(), node("svg", clip, ...(isNear ? this.shapes() : [])));
-        this.begin(canvas, width, height);
-        if (view.steps > MOST_SHAPES) this.paintCounts();
+        this.begin(canvas, view.width, view.bottom);
+        put({ names: this.names(), shapes: isNear && this.shapes() });
+        lanes.setAttribute("class", `${this.page.isFollowing ? "following" : ""} ${isNear ? "" : isFar ? "far counted" : "far"}`);
+        if (isFar) this.paintCounts();
         else if (!isNear) this.paintShapes();
+        const edges = ["first", "end", "steps"].map((name) => [name, view.x(journal[name] - 0.5)]);
+        for (const [name, dots] of [...edges, ["bottom", view.bottom]]) lanes.parentElement.style.setProperty(`--${name}`, `${dots}px`);
+        byId("window").style = `left: ${100 * view.first / (journal.steps || 1)}%; width: ${100 * view.steps / (journal.steps || 1)}%`;
     }
     names() {
-        const { view, journal } = this, name = (text, y, dim, more) => node("text", { x: LEFT - 8, y, class: `name ${dim ? "dim" : ""}`, ...more }, text);
-        const line = (y, end, more = "") => node("path", { d: `M${LEFT},${y}H${Math.max(LEFT, Math.min(view.width, end))}`, class: `line ${more}` });
+        const { view, journal } = this, name = (text, y, dim, more) => shape("text", { x: LEFT - 8, y, class: `name ${dim ? "dim" : ""}`, ...more }, text);
+        const line = (y, end, more = "") => shape("path", { d: `M${LEFT},${y}H${Math.max(LEFT, Math.min(view.width, end))}`, class: `line ${more}` });
         const lanes = [...view.place].flatMap(([pid, { y, height }]) => {
             const exit = journal.exits[pid] ?? Infinity, label = pid < journal.procs ? `P${pid}` : "unknown";
             return [line(y, pid < journal.procs ? view.x(exit) : 0), name(height > FOLDED ? label : "", y, exit < view.first)];
@@ -31,7 +36,7 @@ class Painter {
             [name(`port ${port}`, floor - 8, false, { "data-strip": port }), line(floor, view.width), line(floor - STRIP + 8, view.width, "full")]));
     }
     shapes() {
-        const { view } = this, stalls = this.journal.stallsOf(...view.range()), rect = (shape, { title } = shape) => node("rect", { ...shape, title });
+        const { view } = this, stalls = this.journal.stallsOf(...view.range()), rect = (one, { title } = one) => shape("rect", { ...one, title });
         return [...stalls.flatMap((stall) => this.fields(stall)).map((field) => rect(field)), ...view.levels().map((level) => rect(this.level(level))),
             ...view.arrows().flatMap((to) => this.arrow(to)), ...view.bars().flatMap((call) => [rect(this.bar(call), call), this.knob(call)]),
             ...view.boxes().flatMap((step) => [rect(this.box(step), step), this.label(step)]), ...stalls.flatMap((stall) => this.guesses(stall))];
@@ -42,52 +47,48 @@ class Painter {
             { "": "open", d: "drained", x: "cancelled" }[end.letter], "mc".includes(step.letter) && "thick"].filter(Boolean).join(" ");
     }
     fields({ place, calls }) {
-        const { view } = this, width = Math.max(3, view.dots), places = calls.map((call) => view.place.get(this.journal.step(call).lane));
+        const { view } = this, width = Math.max(3, view.dots), places = calls.map((call) => view.place.get(this.journal.step(call)?.lane));
         const x = view.x(place) - width / 2, title = `step ${place + 1} stalls everyone who is left`;
         return places.filter(Boolean).map(({ y, height }) => ({ class: "field", x, y: y - height / 2, width, height, title }));
     }
     level({ row, port, from, until, count }) {
-        const { view } = this, x = Math.max(LEFT, view.x(from)), room = this.journal.rooms[port - 1], height = count * (STRIP - 8) / room;
-        const width = Math.max(1, Math.min(view.width, view.x(until)) - x), title = `port ${port} holds ${count} of ${room}`;
-        return { class: `level ${hueOf(port)}`, x, y: view.floor(row) - height, width, height, title };
+        const { view } = this, x = Math.max(LEFT, view.x(from)), width = Math.max(1, Math.min(view.width, view.x(until)) - x);
+        const room = this.journal.rooms[port - 1], height = (count || room) / room * (STRIP - 8), title = `port ${port} holds ${count || "?"} of ${room}`;
+        return { class: `level ${count ? hueOf(port) : "untold"}`, x, y: view.floor(row) - height, width, height, title };
     }
     arrow(to) {
         const { view, page } = this, from = to.sender, [start, end] = [from, to].map((step) => view.place.get(step.lane));
         const side = Math.sign(end.y - start.y), x = view.x(from.end.by), toX = view.x(to.end.by);
         const y = start.y + (side || -1) * start.size / 2, toY = end.y - (side || 1) * end.size / 2, bend = side ? (y + toY) / 2 : y - 14;
-        const way = { d: `M${x},${y}C${x},${bend} ${toX},${bend} ${toX},${toY}`, "data-link": wayLink(to) };
-        const arrow = { ...way, class: `arrow ${hueOf(to.port)} ${page.marks.has(to.place) ? "found" : ""}`, "marker-end": "url(#tip)" };
-        return [node("path", arrow), node("path", { class: "reach", ...way, title: to.title })];
+        const d = `M${x},${y}C${x},${bend} ${toX},${bend} ${toX},${toY}`, signs = `arrow ${hueOf(to.port)} ${page.marks.has(to.place) ? "found" : ""}`;
+        return [signs, "reach"].map((signs) => shape("path", { d, class: signs, "data-link": wayLink(to), title: to.title }));
     }
     bar(call) {
         const { view } = this, { y, size } = view.place.get(call.lane), height = size * 0.45, x = Math.max(LEFT - 2, view.x(call.place));
         const width = Math.max(0, Math.min(view.width + 2, view.x(Math.min(call.end.by, this.journal.steps))) - x);
         return { class: `bar ${this.signs(call)}`, x, y: y - height / 2, width, height, "data-link": stepLink(call.end.letter ? call.end.by : call.place) };
     }
-    knob(call) {
+    knob(call) {  // where its end is in view
         const { x, y, width, height, ...more } = this.bar(call), place = { cx: x + width, cy: y + height / 2, r: Math.min(5, height * 0.6) };
-        return call.end.letter ? node("circle", { ...more, ...place, class: more.class.replace("bar", "knob") }) : "";
+        return call.end.by < this.view.range()[1] ? shape("circle", { ...more, ...place, class: more.class.replace("bar", "knob") }) : "";
     }
     box(step) {
         const { view } = this, { y, size } = view.place.get(step.lane), width = view.boxWidth, small = view.dots < 5 ? "small" : "";
-        const place = { x: view.x(step.place) - width / 2, y: y - size / 2, width, height: size };
-        return { class: `box ${this.signs(step)} ${small}`, ...place, "data-link": stepLink(step.place) };
+        const more = { x: view.x(step.place) - width / 2, y: y - size / 2, "data-link": stepLink(step.place) };
+        return { class: `box ${this.signs(step)} ${small}`, width, height: size, ...more };
     }
     label(step) {
         const { view } = this, { y, size } = view.place.get(step.lane), { label, value } = step;
         const text = size > 9 && [`${label}:${readable(value)}`, label].slice(value === null).find((text) => text.length * 6.2 <= view.boxWidth);
-        return text ? node("text", { class: `label ${this.signs(step)}`, x: view.x(step.place), y }, text) : "";
+        return text ? shape("text", { class: `label ${this.signs(step)}`, x: view.x(step.place), y }, text) : "";
     }
     guesses(stall) {
         const { view } = this, x = view.x(stall.place) + view.boxWidth / 2 + 3;
-        const ends = this.journal.casesOf(stall).map(({ step, other }) => [step.pid, other].map((pid) => view.place.get(pid)));
-        return ends.filter(([from, to]) => from && to).map(([from, to]) => {
-            const far = x + (from.y < to.y ? 20 : 40);
-            return node("path", { class: "guess", d: `M${x},${from.y}C${far},${from.y} ${far},${to.y} ${x},${to.y}`, "marker-end": "url(#tip)" });
-        });
+        const ends = this.journal.casesOf(stall).map(({ step, other }) => [step?.pid, other].map((pid) => view.place.get(pid)));
+        const way = (from, to, far) => `M${x},${from.y}C${far},${from.y} ${far},${to.y} ${x},${to.y}`, far = (from, to) => x + (from.y < to.y ? 20 : 40);
+        return ends.filter(([from, to]) => from && to).map(([from, to]) => shape("path", { class: "guess", d: way(from, to, far(from, to)) }));
     }
-    begin(canvas, width, height) {
-        const fine = devicePixelRatio || 1;
+    begin(canvas, width, height, fine = devicePixelRatio || 1) {
         [canvas.width, canvas.height, canvas.style.height] = [Math.round(width * fine), Math.round(height * fine), height + "px"];
         Object.assign(this, { pen: canvas.getContext("2d"), style: getComputedStyle(canvas), colours: {} });
         Object.assign(this.pen, { font: "11px system-ui, sans-serif" }).scale(fine, fine);
@@ -97,7 +98,7 @@ class Painter {
     paintShapes() {
         const { view } = this, shapes = [...view.levels().map((level) => this.level(level)), ...view.bars().map((call) => this.bar(call)),
             ...view.boxes().map((step) => this.box(step)), ...this.journal.stallsOf(...view.range()).flatMap((stall) => this.fields(stall))];
-        const colourOf = (signs) => (/trouble|field/.test(signs) ? "trouble" : /h\d|edge/.exec(signs)[0]);
+        const colourOf = (signs) => (/trouble|field/.test(signs) ? "trouble" : /h\d|edge|untold/.exec(signs)[0]);
         for (const { class: signs, x, y, width, height } of shapes) this.fill(colourOf(signs), x, y, width, height);
     }
     paintCounts() {  // in columns of dots: waits as a band as high as their share, steps as a thinner one on it, troubles
@@ -131,7 +132,7 @@ class Painter {
         const { journal } = this, { procs, stalls } = journal, count = Math.max(1, journal.steps), width = canvas.parentElement.clientWidth;
         const x = (step) => Math.floor(step / scale), scale = count / width;
         this.begin(canvas, width, 54);
-        const shares = count > MOST_SHAPES ? numbers(0, procs).map((lane) => (first, end) => journal.share("waited", lane, first, end))
+        const shares = count > MOST_SHAPES || journal.told ? numbers(0, procs).map((lane) => (first, end) => journal.share("waited", lane, first, end))
             : journal.goingOn(0, journal.steps).filter((call) => call.waits).map((call) => (first, end) => call.share(first, end));
         const waiting = (first, end) => shares.reduce((sum, share) => sum + share(first, end), 0) / procs;
         this.fillColumns("h1", 0, width, 48, (column) => 32 * waiting(column * scale, (column + COLUMN) * scale), 1);

@@ -1,4 +1,4 @@
-// What is in view: a window of steps, lanes of processes, strips of ports, and what stands there.
+// What is in view: a window of steps, lanes of processes, strips of ports, and what stands there; and what words mean that are looked for.
 const LEFT = 64, RIGHT = 44, AXIS = 26, STRIP = 24, FOLDED = 8, LEAST_LANE = 16, MOST_LANE = 40, NEAREST = 90, CLOSE = 60;
 const MOST_NEAR = 500, MOST_SHAPES = 6000;  // so many steps have arrows, and tell what they are; so many are drawn one by one
 class View {
@@ -44,18 +44,27 @@ class View {
         const steps = this.steps > MOST_NEAR ? CLOSE : this.steps, isOff = Math.abs(step - this.first - steps / 2) > steps * 0.42;
         if (isOff || this.steps > MOST_NEAR) this.show(step + 0.5 - steps / 2, steps);
     }
-    boxes() { return this.journal.stepsOf(...this.range()).filter((step) => this.isShown(step)); }
+    boxes() { return this.journal.stepsOf(...this.range()).filter((step) => step && this.isShown(step)); }
     bars() { return this.journal.goingOn(...this.range()).filter((call) => call.waits && this.isShown(call)); }
     arrows() {  // the receivers of the values of which at least one end is in view
-        const receivers = this.journal.endsOf(...this.range()).map((call) => call.receiver?.place);
-        return [...new Set(receivers)].map((place) => this.journal.step(place)).filter((to) => to && this.isShown(to, to.sender));
+        const receivers = new Map(this.journal.endsOf(...this.range()).map(({ receiver }) => [receiver?.place, receiver]));
+        return [...receivers.values()].filter((to) => to?.sender?.end.by >= 0 && this.isShown(to, to.sender));
     }
-    levels() {  // what ports hold as far as it can be seen: each count from one step until another
-        const { journal } = this, [first, last] = this.range(), end = Math.min(journal.steps, last + 1), at = journal.blockAt(first);
-        const told = new Map(this.strips().map((port) => [port, [{ port, from: at * BLOCK - 1, count: journal.levelBefore(at, port) }]]));
-        for (const level of numbers(at, Math.ceil(end / BLOCK)).flatMap((at) => journal.block(at).levels))
-            if (level.count !== told.get(level.port)?.at(-1).count) told.get(level.port)?.push(level);
-        const levels = [...told.values()].flatMap((own, row) => own.map((level, at) => ({ ...level, row, until: own[at + 1]?.from ?? Math.max(end, first) })));
-        return levels.filter((level) => level.count && level.until >= first && level.from < last);
+    levels() {  // what ports hold as far as it can be seen, and is told: each count from one step until another
+        const { journal } = this, [first, last] = this.range(), end = Math.min(journal.end, last + 1), start = Math.max(first, Math.min(journal.first, end));
+        const told = new Map(this.strips().map((port) => [port, [{ port, from: start - 1, count: journal.levelBefore(start, port) }]]));
+        for (const level of numbers(journal.blockAt(start), Math.ceil(end / BLOCK)).flatMap((at) => journal.block(at).levels))
+            if (level.from >= start && level.from < end && level.count !== told.get(level.port)?.at(-1).count) told.get(level.port)?.push(level);
+        const levels = [...told.values()].flatMap((own, row) => own.map((level, at) => ({ ...level, row, until: own[at + 1]?.from ?? end })));
+        return levels.filter((level) => level.count !== 0 && level.until >= first && level.from < Math.min(last, end));
     }
+}
+function testOf(word) {  // of what is typed in Find: whether a step is meant
+    const [, kind, digits, name = kind?.trim()] = /^(?:(P|step |before |waited |port )(\d+)|(deadlock)s?)$/i.exec(word) ?? [];
+    const number = Number(digits), text = word.slice(1), end = Object.keys(ENDS).find((letter) => ENDS[letter] === word);
+    if (word[0] === "=") return ({ value }) => value === text || value?.[0] === "#" && readable(value) === `\u201c${text}\u201d`;
+    const numbered = { p: ({ pid }) => pid === number, step: ({ place }) => place === number - 1, before: ({ place }) => place < number - 1,
+        port: ({ ports }) => ports.includes(number), deadlock: ({ journal, place }) => journal.stallAt(place),
+        waited: (step) => step.waits && step.waited === number };
+    return numbered[name?.toLowerCase()] ?? (end ? (step) => step.end.letter === end : (step) => step.title.includes(word));
 }

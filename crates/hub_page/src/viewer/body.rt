@@ -20,8 +20,10 @@ pub(super) const TEXT: &[u8] = b"</style>
 </header>
 <main id=\"scroll\" tabindex=\"0\" aria-label=\"Processes and ports\">
 <canvas id=\"axis\" aria-hidden=\"true\"></canvas>
+<div id=\"early\"></div>
+<div id=\"late\"></div>
 <canvas id=\"far\" aria-hidden=\"true\"></canvas>
-<svg id=\"lanes\" onwheel=\"event.preventDefault(); page.wheel(event)\" onpointerdown=\"page.dragged = 0\" onpointermove=\"if (event.buttons) page.drag(event)\" onclick=\"if (page.dragged <= 4) page.click(event)\" role=\"img\" aria-label=\"A lane for each process, from left to right. The panel tells in words what is chosen: j and k choose the next step and the one before.\"></svg>
+<svg id=\"lanes\" onwheel=\"event.preventDefault(); page.wheel(event)\" onpointerdown=\"page.dragged = 0\" onpointermove=\"if (event.buttons) page.drag(event)\" onclick=\"if (page.dragged <= 4) page.click(event)\" role=\"img\" aria-label=\"A lane for each process, from left to right. The panel tells in words what is chosen: j and k choose the next step and the one before.\"><g id=\"names\"></g><g id=\"shapes\" clip-path=\"url(#clip)\"></g></svg>
 </main>
 <footer>
 <canvas id=\"strip\" onpointerdown=\"page.moveWhole(event)\" onpointermove=\"if (event.buttons) page.moveWhole(event)\" role=\"img\" aria-label=\"The whole: how many processes wait, and where they stalled\"></canvas>
@@ -62,7 +64,7 @@ pub(super) const TEXT: &[u8] = b"</style>
 <li>that process does not wait</li>
 </ol>
 </dialog>
-<svg width=\"0\" height=\"0\" aria-hidden=\"true\"><marker id=\"tip\" viewBox=\"0 0 8 8\" refX=\"8\" refY=\"4\" markerUnits=\"userSpaceOnUse\" markerWidth=\"8\" markerHeight=\"8\" orient=\"auto\"><path d=\"M0,0L8,4L0,8z\" fill=\"context-stroke\"/></marker></svg>
+<svg width=\"0\" height=\"0\" aria-hidden=\"true\"><clipPath id=\"clip\"><rect x=\"62\" width=\"99999\" height=\"99999\"/></clipPath><marker id=\"tip\" viewBox=\"0 0 8 8\" refX=\"8\" refY=\"4\" markerUnits=\"userSpaceOnUse\" markerWidth=\"8\" markerHeight=\"8\" orient=\"auto\"><path d=\"M0,0L8,4L0,8z\" fill=\"context-stroke\"/></marker></svg>
 <aside id=\"panel\" aria-label=\"What is chosen\">
 <p id=\"none\" role=\"status\"></p>
 <div id=\"step\" aria-live=\"polite\" hidden>
@@ -78,9 +80,10 @@ pub(super) const TEXT: &[u8] = b"</style>
 </table>
 <div id=\"stall\">
 <h3>A deadlock: everyone who is left waits</h3>
+<ul id=\"cause\"></ul>
 <ul id=\"full\"></ul>
 <ul id=\"stalled\"></ul>
-<p class=\"dim\">Whom a call perhaps waits for is a guess, as the arcs are. If the last who received from a full port took its own value back, as from a lock, a send waits for one whose value the port holds; or else for who last received there, or who last sent. A receive waits for who last sent there, or who last received. Only processes that are stalled too, and do not wait to do the same there, are named.</p>
+<details class=\"dim\"><summary>How it is guessed</summary>Whom a call perhaps waits for is a guess, as the arcs are. If the last who received from a full port took its own value back, as from a lock, a send waits for one whose value the port holds; or else for who last received there, or who last sent. A receive waits for who last sent there, or who last received. Only processes that are stalled too, and do not wait to do the same there, are named.</details>
 <h3>Who was there last</h3>
 <table class=\"lines\"><thead><tr><td>port</td><td>sent by</td><td>received by</td></tr></thead><tbody id=\"last\"></tbody></table>
 </div>
@@ -93,6 +96,7 @@ pub(super) const TEXT: &[u8] = b"</style>
 <div id=\"whole\">
 <h2>The whole</h2>
 <p id=\"size\"></p>
+<p id=\"told\"></p>
 <h3 id=\"deadlocks\"></h3>
 <ul id=\"stalls\"></ul>
 <div id=\"waits\">

@@ -4,7 +4,7 @@ pub(super) const TEXT: &[u8] = b":root {
     color-scheme: light dark;
     --paper: light-dark(#fff, #16181c); --text: light-dark(#222, #e8e8e8); --dim: light-dark(#595959, #a8a8a8);
     --rule: light-dark(#8a8a8a, #6f747c); --soft: light-dark(#f5f6f7, #1e2126); --line: light-dark(#dcdfe3, #33373e);
-    --grey: light-dark(#ddd, #3a3d42); --edge: light-dark(#6b6b6b, #a8a8a8); --trouble: light-dark(#c85000, #ff8533);
+    --grey: light-dark(#ddd, #3a3d42); --untold: light-dark(#eceef1, #262a30); --edge: light-dark(#6b6b6b, #a8a8a8); --trouble: light-dark(#c85000, #ff8533);
     --on: light-dark(#000, #fff); --words: light-dark(#a84300, #ff8533); --link: light-dark(#00609a, #7cc4f2);
     --h0: light-dark(#475666, #b8c4d0); --h1: light-dark(#0072b2, #56b4e9); --h2: light-dark(#9a5b00, #e69f00);
     --h3: light-dark(#007a58, #2fc79a); --h4: light-dark(#b03a78, #e58bc0); --h5: light-dark(#6a4fc0, #a99bff);
@@ -14,6 +14,7 @@ pub(super) const TEXT: &[u8] = b":root {
 @media (prefers-color-scheme: dark) { :root:has(#theme:checked) { color-scheme: light; } }
 /* Canvases ask for these as they are on the present paper. */
 @property --dim { syntax: \"<color>\"; inherits: true; initial-value: gray; }
+@property --untold { syntax: \"<color>\"; inherits: true; initial-value: gray; }
 @property --edge { syntax: \"<color>\"; inherits: true; initial-value: gray; }
 @property --trouble { syntax: \"<color>\"; inherits: true; initial-value: gray; }
 @property --on { syntax: \"<color>\"; inherits: true; initial-value: gray; }
@@ -45,7 +46,12 @@ button:hover { background: var(--soft); }
 #scroll > *, #strip { display: block; width: 100%; }
 #axis { position: sticky; top: 0; background: var(--paper); z-index: 1; border-bottom: 1px solid var(--line); }
 #far, #lanes { position: absolute; top: 0; left: 0; }
-#lanes { touch-action: none; cursor: default; }
+#lanes { height: var(--bottom); touch-action: none; cursor: default; }
+/* The steps outside of the window of a page stand left of the first one told, and from the end of these on. */
+#early, #late { position: absolute; top: 0; height: var(--bottom); padding-top: 28px; overflow: hidden; text-overflow: ellipsis; white-space: nowrap; text-align: center; background: var(--untold); }
+#early { left: 64px; width: calc(min(100%, var(--first)) - 64px); }
+#late { left: max(64px, var(--end)); width: calc(min(100%, var(--steps)) - max(64px, var(--end))); }
+#scroll:has(.counted) > :is(#early, #late) { display: none; }
 [data-link], [data-strip] { cursor: pointer; }
 #lanes.far { cursor: zoom-in; }
 #lanes.far .line { opacity: 0.4; }
@@ -62,6 +68,7 @@ button:hover { background: var(--soft); }
 .line.full { stroke-dasharray: 2 4; }
 .field { fill: var(--trouble); opacity: 0.16; }
 .level { fill: var(--hue); }
+.level.untold { fill: var(--untold); }
 .box { fill: var(--grey); stroke: var(--hue); stroke-width: 1.5; }
 .bar, .knob { fill: var(--paper); stroke: var(--hue); stroke-width: 1.5; }
 .box.r { fill: var(--paper); }
@@ -75,6 +82,7 @@ button:hover { background: var(--soft); }
 .box.trouble { stroke: var(--trouble); stroke-dasharray: 6 2; }
 .box.small { fill: var(--hue); stroke: none; }
 .box.small.trouble { fill: var(--trouble); }
+.arrow, .guess { marker-end: url(#tip); }
 .arrow { fill: none; stroke: var(--hue); stroke-width: 1.5; }
 .reach { fill: none; stroke: transparent; stroke-width: 10; }
 .guess { fill: none; stroke: var(--trouble); stroke-width: 2; }
@@ -91,7 +99,7 @@ button:hover { background: var(--soft); }
 #panel code { overflow-wrap: anywhere; }
 #none { color: var(--words); }
 /* What tells nothing is not shown. */
-#none:empty, #ties:empty, ul:empty, h3:has(+ ul:empty), tr:has(th + td:empty), tr:has(td > ul:empty) { display: none; }
+#none:empty, #told:empty, #ties:empty, ul:empty, h3:has(+ ul:empty), tr:has(th + td:empty), tr:has(td > ul:empty) { display: none; }
 #stall:has(#stalled:empty), #waits:has(#longest:empty), p:has(> #empty:empty) { display: none; }
 #panel .lines tr { border-bottom: 1px solid var(--line); }
 #panel p { margin: 4px 0; }

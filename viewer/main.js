@@ -108,7 +108,7 @@ class Page {
         if (shiftKey || Math.abs(deltaX) > Math.abs(deltaY)) this.view.pan((deltaX + deltaY) / this.view.dots);
         else this.view.zoom(Math.exp(deltaY * 0.0018), offsetX);
     }
-    moveWhole({ offsetX }, steps = this.view.steps < this.journal.steps ? this.view.steps : CLOSE) {
+    moveWhole({ offsetX }, steps = this.view.steps < this.journal.steps ? this.view.steps : this.view.width / CLOSE) {
         this.view.show(offsetX / byId("strip").clientWidth * this.journal.steps - steps / 2, steps);
     }
     leaveFind(words) {  // what was typed is looked for when the cursor leaves the field, as it does by Enter

@@ -1,14 +1,14 @@
 // Draws what is in view: from near by shapes that tell what they are, from farther off on a canvas. Colours are those of style.css.
 const HUES = 8, COLUMN = 2, hueOf = (port) => (port ? "h" + port % HUES : "edge");
+const escaped = (value) => String(value || value === 0 ? value : "").replace(/[&<>"]/g, (letter) => `&#${letter.charCodeAt()};`);
 function html(parts, ...values) {  // in which each value is text, unless it is HTML or a list of it
-    const escaped = (value) => String(value || value === 0 ? value : "").replace(/[&<>"]/g, (letter) => `&#${letter.charCodeAt()};`);
     const inside = (value) => (Array.isArray(value) ? value.map(inside).join("") : value?.html ?? escaped(value));
     return { html: String.raw({ raw: parts }, ...values.map(inside)) };
 }
 const put = (texts) => Object.entries(texts).forEach(([id, text]) => Object.assign(byId(id), { innerHTML: html`${text}`.html }));
 function shape(tag, { title, ...more }, text) {
-    const signs = Object.entries(more).map(([name, value]) => html` ${{ html: name }}="${value}"`);
-    return html`<${{ html: tag }}${signs}>${title && html`<title>${title}</title>`}${text}</${{ html: tag }}>`;
+    const signs = Object.entries(more).map(([name, value]) => ` ${name}="${escaped(value)}"`).join("");
+    return { html: `<${tag}${signs}>${title ? `<title>${escaped(title)}</title>` : ""}${escaped(text)}</${tag}>` };
 }
 class Painter {
     constructor(page, view, journal) { Object.assign(this, { page, view, journal }); }
@@ -61,7 +61,7 @@ class Painter {
         const side = Math.sign(end.y - start.y), x = view.x(from.end.by), toX = view.x(to.end.by);
         const y = start.y + (side || -1) * start.size / 2, toY = end.y - (side || 1) * end.size / 2, bend = side ? (y + toY) / 2 : y - 14;
         const d = `M${x},${y}C${x},${bend} ${toX},${bend} ${toX},${toY}`, signs = `arrow ${hueOf(to.port)} ${page.marks.has(to.place) ? "found" : ""}`;
-        return [signs, "reach"].map((signs) => shape("path", { d, class: signs, "data-link": wayLink(to), title: to.title }));
+        return [signs, "reach"].map((signs, at) => shape("path", { d, class: signs, "data-link": wayLink(to), title: at > 0 && to.title }));
     }
     bar(call) {
         const { view } = this, { y, size } = view.place.get(call.lane), height = size * 0.45, x = Math.max(LEFT - 2, view.x(call.place));

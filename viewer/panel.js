@@ -51,8 +51,8 @@ function stallText(stall, journal) {  // a cause, what full ports hold, who wait
     const byPort = (of) => [...new Map(cases.filter(of).map((one) => [one.port, one])).values()];
     const last = byPort(({ port }) => port > 0).map(({ port, movers }) => [port, ...movers.map((place) => whoAt(place, journal.step(place)))]);
     const waits = (step, at) => html`${whoAt(stall.calls[at], step)} waits${step && ` to ${step.cases.map(caseText).join(" or to ")}`}${guesses(step)}`;
-    const cause = items([...new Set([...nobody, ...mutual])]), full = items(byPort(({ count }) => count > 0).map(holds));
-    return { cause, full, stalled: items(calls.map(waits)), last: rowsOf(last) };
+    const alone = calls.length === 1 && journal.procs > 1 ? ["All others have exited."] : [], cause = items([...new Set([...nobody, ...mutual, ...alone])]);
+    return { cause, full: items(byPort(({ count }) => count > 0).map(holds)), stalled: items(calls.map(waits)), last: rowsOf(last) };
 }
 function tellWhole(journal, story) {  // of deadlocks the first and the last four
     const { steps, first, end, procs, stalls, rooms, asks, waits, exits } = journal, left = stalls.length - 5;

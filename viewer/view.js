@@ -1,5 +1,5 @@
 // What is in view: a window of steps, lanes of processes, strips of ports, and what stands there; and what words mean that are looked for.
-const LEFT = 64, RIGHT = 44, AXIS = 26, STRIP = 24, FOLDED = 8, LEAST_LANE = 16, MOST_LANE = 40, NEAREST = 90, CLOSE = 60;
+const LEFT = 64, RIGHT = 44, AXIS = 26, STRIP = 24, FOLDED = 8, LEAST_LANE = 16, MOST_LANE = 40, NEAREST = 90, CLOSE = 18;  // dots
 const MOST_NEAR = 500, MOST_SHAPES = 6000;  // so many steps have arrows, and tell what they are; so many are drawn one by one
 class View {
     constructor(journal, changed) {  // at the left edge is the step first, with a fraction; ports have a strip if they held a value
@@ -40,8 +40,8 @@ class View {
         this.show(0, this.steps * factor);
         this.show(step - share * this.steps, this.steps);
     }
-    reveal(step) {  // brings a step into view, so near that it can be seen
-        const steps = this.steps > MOST_NEAR ? CLOSE : this.steps, isOff = Math.abs(step - this.first - steps / 2) > steps * 0.42;
+    reveal(step) {  // brings a step into view, so near that boxes have letters
+        const steps = this.steps > MOST_NEAR ? this.width / CLOSE : this.steps, isOff = Math.abs(step - this.first - steps / 2) > steps * 0.42;
         if (isOff || this.steps > MOST_NEAR) this.show(step + 0.5 - steps / 2, steps);
     }
     boxes() { return this.journal.stepsOf(...this.range()).filter((step) => step && this.isShown(step)); }

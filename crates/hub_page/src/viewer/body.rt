@@ -33,7 +33,7 @@ pub(super) const TEXT: &[u8] = b"</style>
 <dialog id=\"help\">
 <form method=\"dialog\"><button>Close</button></form>
 <h2>How to read and use this page</h2>
-<p>Each lane is a process, and each box on it a step: <b>m1</b> makes port 1, <b>s1:7</b> sends 7 there, <b>r1:7</b> receives it, <b>c1</b> closes the port; <b>def</b> is a default, <b>f5</b> fault 5. A bar is a call that waits, until its knob. An arrow is a value on its way. A shaded field is a deadlock, and the arrows beside it tell who perhaps waits for whom. The calls that it ends return <b>stalled</b>, and their processes may go on after it. The panel spells a step as its journal does: <b>5 recv 1</b> is process 5, which receives from port 1. The strips below show how many values a port holds. Of many steps a lane shows how much its process waited (blue), how much it did (grey), and where it was stalled or refused (orange).</p>
+<p>Each lane is a process, and each box on it a step: <b>m1</b> makes port 1, <b>s1:7</b> sends 7 there, <b>r1:7</b> receives it, <b>c1</b> closes the port; <b>def</b> is a default, <b>f5</b> fault 5. A bar is a call that waits, until its knob. An arrow is a value on its way. A shaded field is a deadlock, and the arrows beside it tell who perhaps waits for whom. The calls that it ends return <b>stalled</b>, and their processes may go on after it. The panel spells a step as its journal does: <b>5 recv 1</b> is process 5, which receives from port 1. The strips below show how many values a port holds. Steps on a pale field are not told on this page. Of many steps a lane shows how much its process waited (blue), how much it did (grey), and where it was stalled or refused (orange).</p>
 <table>
 <tr><td>wheel, <kbd>+</kbd> <kbd>-</kbd> <kbd>0</kbd></td><td>nearer, farther, all</td></tr>
 <tr><td>drag, shift and wheel, <kbd>&larr;</kbd> <kbd>&rarr;</kbd> <kbd>Home</kbd> <kbd>End</kbd></td><td>to other steps</td></tr>
@@ -44,7 +44,7 @@ pub(super) const TEXT: &[u8] = b"</style>
 <tr><td>click a bar, <kbd>w</kbd></td><td>go to the step that ended the wait</td></tr>
 <tr><td>click an arrow, <kbd>f</kbd></td><td>follow a value on its way from port to port, with all else paler, or end that: if a process sends the value that it got, before it gets another, it passes that value on</td></tr>
 <tr><td><kbd>g</kbd></td><td>go to the value's other end</td></tr>
-<tr><td><kbd>/</kbd>, <kbd>Enter</kbd></td><td>find, beginning at the chosen step: P3, port 2, =17 (all equal values), stalled or deadlock, cancelled, waited, waited 53 (steps), send, step 60, before 60, way 60 (of the value that step 60 moved), or several of them. With first or last: begin there</td></tr>
+<tr><td><kbd>/</kbd>, <kbd>Enter</kbd></td><td>find, beginning at the chosen step: P3, port 2, =17 (all equal values), stalled (calls), deadlock (the steps that stalled them), cancelled, waited, waited 53 (steps), send, step 60, before 60, way 60 (of the value that step 60 moved), or several of them. With first or last: begin there; with before: at the last one found</td></tr>
 <tr><td><kbd>n</kbd> or <kbd>Enter</kbd>, <kbd>p</kbd>, <kbd>&lt;</kbd> <kbd>&gt;</kbd></td><td>of what is found the next one, the one before, the first and the last</td></tr>
 <tr><td><kbd>Esc</kbd></td><td>end the search, and show the whole: the longest waits, deadlocks, ports, processes</td></tr>
 </table>

@@ -35,8 +35,11 @@ header { grid-column: 1 / 3; display: flex; flex-wrap: wrap; gap: 6px; align-ite
 h1 { font-size: 15px; margin: 0 12px 0 0; }
 h2 { font-size: 15px; margin: 0 0 4px; }
 h3 { font-size: 13px; margin: 16px 0 4px; }
-#find { width: 22em; max-width: 40vw; }
-#count { min-width: 6em; color: var(--dim); }
+header > * { white-space: nowrap; overflow: hidden; text-overflow: ellipsis; }
+header label:has(#find) { flex: 0 1 26em; overflow: visible; display: flex; gap: 6px; align-items: center; min-width: 12em; }
+#find { flex: 1; min-width: 0; }
+#count { flex: 0 1 auto; min-width: 6em; color: var(--dim); }
+@media (min-width: 800px) { header { flex-wrap: nowrap; } header > button { flex: none; } h1 { flex: 0 1 auto; min-width: 4em; } }
 .space { flex: 1; }
 input, select, button { font: inherit; color: var(--text); background: var(--paper); border: 1px solid var(--rule); border-radius: 5px; padding: 2px 8px; }
 button { cursor: pointer; }
@@ -100,6 +103,7 @@ button:hover { background: var(--soft); }
 #none { color: var(--words); }
 /* What tells nothing is not shown. */
 #none:empty, #told:empty, #ties:empty, ul:empty, h3:has(+ ul:empty), tr:has(th + td:empty), tr:has(td > ul:empty) { display: none; }
+#stall > h3 { display: block; }
 #stall:has(#stalled:empty), #waits:has(#longest:empty), p:has(> #empty:empty) { display: none; }
 #panel .lines tr { border-bottom: 1px solid var(--line); }
 #panel p { margin: 4px 0; }

@@ -181,6 +181,7 @@ class Part(picture.Journal):
             if one.ended and (words_of(one) == "stalled" or by >= self.window.start and one.place < self.window.stop):
                 self.told.add(by)
         self.told |= {one[0] for _, *both in self.passages() for one, other in (both, reversed(both)) if other[0] in self.window}
+        self.senders = {received[0]: sent for _, sent, received in self.passages()}
         self.as_told = [self.known(one) for one in super().asked()]
 
     def asked(self):
@@ -197,7 +198,7 @@ class Part(picture.Journal):
 
     def sender(self, place):
         """Who sent what a step received, if that and the value are told."""
-        sent = next(sent for _, sent, received in self.passages() if received[0] == place)
+        sent = self.senders[place]
         return sent[0] if sent[0] in self.told and (sent[1] in self.told or len(picture.cases_of(self.lines[sent[0]])) == 1) else None
 
     def holds(self, port):

@@ -29,8 +29,8 @@ class Step {
         return [this.pid, "select", /^\d+/.exec(this.more), ...this.cases].join(" ") + (this.more.endsWith("!") ? " default" : "");
     }
     get answer() {
-        const { letter, number } = this.end, reason = letter === "f" && document.querySelector(`#faults li:nth-child(${number})`).textContent;
-        return [ENDS[letter] ?? "waits to the end", { g: readable(this.value) ?? "a value", m: number, f: `${number}: ${reason}` }[letter]].join(" ").trim();
+        const { letter, number } = this.end, why = letter === "f" && `${number}: ${byId("faults").children[number - 1].textContent}`;
+        return [ENDS[letter] ?? "waits to the end", { g: readable(this.value) ?? "a value", m: number, f: why }[letter]].join(" ").trim();
     }
     get title() { return `step ${this.place + 1}: ${this.line}\n${this.answer}${this.waits ? ", waited " + counted(this.waited, "step") : ""}`; }
     get port() { return { f: 0, m: this.end.number }[this.end.letter] ?? (this.letter === "c" ? Number(this.more) : this.shown.port); }
@@ -102,7 +102,7 @@ class Journal {
     endOf({ place, lane, cases }) {  // a call whose end alone is not told sent what a step of the window received
         let at = this.blockAt(place);
         while (at < this.blocks && this.open[(at + 1) * this.lanes + lane] === place) at++;
-        return at === this.blocks ? STILL_WAITS : this.block(at).ends.get(place) ?? { by: NaN, letter: "s", number: cases.length > 1 ? -1 : 0, block: at };
+        return at === this.blocks ? STILL_WAITS : this.block(at).ends.get(place) ?? { by: NaN, letter: "s", number: cases[1] ? -1 : 0, block: at };
     }
     receiverOf({ place, end, shown: { port } }) {  // it is told where no more values were received before than had been sent
         const { sent, got, width } = this, begin = end.block ?? this.blockAt(end.by), most = sent[(begin + 1) * width + port];
@@ -118,14 +118,14 @@ class Journal {
     endsOf(first, end) { return this.goingOn(first, end).filter((step) => step.end.by < end); }
     stallAt(place) { return this.block(this.blockAt(place)).stalls[place]; }
     stallsOf(first, end) { return this.stalls.filter((place) => place >= first && place < end).map((place) => this.stallAt(place)); }
-    isInside(place) { return place >= this.first && place < this.end; }
+    isIn(place) { return place >= this.first && place < this.end; }
     get told() { return this.end - this.first < this.steps ? ", as far as it is told" : ""; }  // what is said of all steps
     levelBefore(place, port) {  // what a port holds before a step of the window, or when it ends; NaN if that is not told
-        const at = Math.min(this.blockAt(place), this.blocks - 1), held = (at) => this.sent[at * this.width + port] - this.got[at * this.width + port];
-        const own = this.block(at).levels.filter((one) => one.port === port && this.isInside(one.from)), known = own.findLast(({ from }) => from < place);
-        if (known || at * BLOCK >= this.first) return known?.count ?? held(at);
+        const at = Math.min(this.blockAt(place), this.blocks - 1), had = (at) => this.sent[at * this.width + port] - this.got[at * this.width + port];
+        const own = this.block(at).levels.filter((one) => one.port === port && this.isIn(one.from)), known = own.findLast(({ from }) => from < place);
+        if (known || at * BLOCK >= this.first) return known?.count ?? had(at);
         const moves = (letter) => [...this.block(at).ends.values()].filter((end) => end.by === own[0].from && end.letter === letter).length;
-        return own.length ? own[0].count - moves("s") + moves("g") : this.end < this.endOfBlock(at) ? NaN : held(at + 1);
+        return own.length ? own[0].count - moves("s") + moves("g") : this.end < this.endOfBlock(at) ? NaN : had(at + 1);
     }
     *blocksWith(table, width, column, at, direction, least = 0) {  // in which a number grows, from one on (1) or back (-1)
         for (; at >= least && at < this.blocks; at += direction)
@@ -138,7 +138,7 @@ class Journal {
         return { count, held: [...sends.take(count)].reverse() };
     }
     casesOf({ place, calls, last }) {  // a guess: a port of which one took its own value back last is a lock, and its value's sender has it
-        if (!this.isInside(place)) return last;
+        if (!this.isIn(place)) return last;
         const steps = calls.map((call) => this.step(call)), all = steps.flatMap((step) => step.offers.map((offer) => ({ step, offer })));
         return all.map(({ step, offer }, at) => {
             const { port, movers: [, taker], other } = last[at], { sender, pid } = this.step(taker) ?? {};
@@ -150,10 +150,10 @@ class Journal {
     mostOf(port, first, end) {
         return numbers(this.blockAt(first), Math.ceil(end / BLOCK)).reduce((most, at) => Math.max(most, this.most[(at + 1) * this.width + port]), 0);
     }
-    stepsOfProcess({ place, pid, lane }, direction) {  // behind a step (1) or before it (-1), the nearest first; null for each that is not told
-        const placesOf = (at) => numbers(at * BLOCK, this.endOfBlock(at)).filter((at) => (at - place) * direction > 0);
-        return this.blocksWith(this.asked, this.lanes, lane, this.blockAt(place), direction)
-            .flatMap((at) => (direction > 0 ? placesOf(at) : placesOf(at).reverse())).map((at) => this.step(at)).filter((step) => !step || step.pid === pid);
+    stepsOfProcess({ place, pid, lane }, way) {  // behind a step (1) or before it (-1), the nearest first; null for each that is not told
+        const rows = (at) => numbers(at * BLOCK, this.endOfBlock(at)).filter((at) => (at - place) * way > 0);
+        return this.blocksWith(this.asked, this.lanes, lane, this.blockAt(place), way)
+            .flatMap((at) => (way > 0 ? rows(at) : rows(at).reverse())).map((at) => this.step(at)).filter((step) => !step || step.pid === pid);
     }
     *wayOf(sender) {  // who sends what it got, before it gets another, passes it on
         const near = (step, direction) => this.stepsOfProcess(step, direction).take(MOST_OWN), { value } = sender;

@@ -33,7 +33,7 @@ class Painter {
             return [line(y, pid < journal.procs ? view.x(exit) : 0), name(height > FOLDED ? label : "", y, exit < view.first)];
         });
         return lanes.concat(view.strips().map((port, row) => [port, view.floor(row)]).flatMap(([port, floor]) =>
-            [name(`port ${port}`, floor - 8, false, { "data-strip": port }), line(floor, view.width), line(floor - STRIP + 8, view.width, "full")]));
+            [name(`port ${port}`, floor - 8, false, { "data-strip": port }), line(floor, view.width), line(floor - FULL, view.width, "full")]));
     }
     shapes() {
         const { view } = this, stalls = this.journal.stallsOf(...view.range()), rect = (one, { title } = one) => shape("rect", { ...one, title });
@@ -53,15 +53,15 @@ class Painter {
     }
     level({ row, port, from, until, count }) {
         const { view } = this, x = Math.max(LEFT, view.x(from)), width = Math.max(1, Math.min(view.width, view.x(until)) - x);
-        const room = this.journal.rooms[port - 1], height = (count || room) / room * (STRIP - 8), title = `port ${port} holds ${count || "?"} of ${room}`;
+        const room = this.journal.rooms[port - 1], height = (count || room) / room * FULL, title = `port ${port} holds ${count || "?"} of ${room}`;
         return { class: `level ${count ? hueOf(port) : "untold"}`, x, y: view.floor(row) - height, width, height, title };
     }
     arrow(to) {
         const { view, page } = this, from = to.sender, [start, end] = [from, to].map((step) => view.place.get(step.lane));
         const side = Math.sign(end.y - start.y), x = view.x(from.end.by), toX = view.x(to.end.by);
         const y = start.y + (side || -1) * start.size / 2, toY = end.y - (side || 1) * end.size / 2, bend = side ? (y + toY) / 2 : y - 14;
-        const d = `M${x},${y}C${x},${bend} ${toX},${bend} ${toX},${toY}`, signs = `arrow ${hueOf(to.port)} ${page.marks.has(to.place) ? "found" : ""}`;
-        return [signs, "reach"].map((signs, at) => shape("path", { d, class: signs, "data-link": wayLink(to), title: at > 0 && to.title }));
+        const d = `M${x},${y}C${x},${bend} ${toX},${bend} ${toX},${toY}`, look = `arrow ${hueOf(to.port)} ${page.marks.has(to.place) ? "found" : ""}`;
+        return [look, "reach"].map((signs, at) => shape("path", { d, class: signs, "data-link": wayLink(to), title: at > 0 && to.title }));
     }
     bar(call) {
         const { view } = this, { y, size } = view.place.get(call.lane), height = size * 0.45, x = Math.max(LEFT - 2, view.x(call.place));
@@ -85,8 +85,8 @@ class Painter {
     guesses(stall) {
         const { view } = this, x = view.x(stall.place) + view.boxWidth / 2 + 3;
         const ends = this.journal.casesOf(stall).map(({ step, other }) => [step?.pid, other].map((pid) => view.place.get(pid)));
-        const way = (from, to, far) => `M${x},${from.y}C${far},${from.y} ${far},${to.y} ${x},${to.y}`, far = (from, to) => x + (from.y < to.y ? 20 : 40);
-        return ends.filter(([from, to]) => from && to).map(([from, to]) => shape("path", { class: "guess", d: way(from, to, far(from, to)) }));
+        const way = (from, to, far = x + (from.y < to.y ? 20 : 40)) => `M${x},${from.y}C${far},${from.y} ${far},${to.y} ${x},${to.y}`;
+        return ends.filter(([from, to]) => from && to).map(([from, to]) => shape("path", { class: "guess", d: way(from, to) }));
     }
     begin(canvas, width, height, fine = devicePixelRatio || 1) {
         [canvas.width, canvas.height, canvas.style.height] = [Math.round(width * fine), Math.round(height * fine), height + "px"];
@@ -110,7 +110,7 @@ class Painter {
             this.fillColumns(colour, LEFT, width, y, (column) => sizeOf(journal.share(name, pid, edge(column), edge(column + COLUMN))));
         }
         for (const [row, port] of view.strips().entries()) {
-            const one = (STRIP - 8) / journal.rooms[port - 1], sizeOf = (column) => one * journal.mostOf(port, edge(column), edge(column + COLUMN));
+            const one = FULL / journal.rooms[port - 1], sizeOf = (column) => one * journal.mostOf(port, edge(column), edge(column + COLUMN));
             this.fillColumns(hueOf(port), LEFT, width, view.floor(row), sizeOf, 1);
         }
     }
@@ -130,9 +130,9 @@ class Painter {
     }
     paintWhole(canvas, found) {  // of few steps each call is counted, since a block is wide there
         const { journal } = this, { procs, stalls } = journal, count = Math.max(1, journal.steps), width = canvas.parentElement.clientWidth;
-        const x = (step) => Math.floor(step / scale), scale = count / width;
+        const x = (step) => Math.floor(step / scale), scale = count / width, isSummed = count > MOST_SHAPES || journal.told;
         this.begin(canvas, width, 54);
-        const shares = count > MOST_SHAPES || journal.told ? numbers(0, procs).map((lane) => (first, end) => journal.share("waited", lane, first, end))
+        const shares = isSummed ? numbers(0, procs).map((lane) => (first, end) => journal.share("waited", lane, first, end))
             : journal.goingOn(0, journal.steps).filter((call) => call.waits).map((call) => (first, end) => call.share(first, end));
         const waiting = (first, end) => shares.reduce((sum, share) => sum + share(first, end), 0) / procs;
         this.fillColumns("h1", 0, width, 48, (column) => 32 * waiting(column * scale, (column + COLUMN) * scale), 1);

@@ -6,9 +6,9 @@ const link = (place, words = `step ${place + 1}`) => html`<a href="#${stepLink(p
 const when = (step) => html`${who(step)}${step.waits && html`, waiting until ${link(step.end.by, step.end.by + 1)}`}`;
 const lay = ({ sender, receiver }) => (receiver.end.by > sender.end.by ? `; ${counted(receiver.end.by - sender.end.by, "step")} in the port` : "");
 const ender = (step) => (step.endsBy("S") ? html`the deadlock at ${link(step.end.by)}` : whoAt(step.end.by, step.journal.step(step.end.by)));
-const who = (step) => html`P${step.pid}, ${link(step.place)}`, isInside = ({ journal, place }) => journal.isInside(place);
+const who = (step) => html`P${step.pid}, ${link(step.place)}`, isIn = ({ journal, place }) => journal.isIn(place);
 const whoAt = (place, step) => (step ? who(step) : place >= 0 ? `step ${place + 1} (not told)` : "nobody");
-const kept = (step, where) => (step.endsBy("g") ? `from ${whoAt(step.end.sender)}` : isInside(step) ? `stays ${where}` : "who got it is not told");
+const kept = (step, where) => (step.endsBy("g") ? `from ${whoAt(step.end.sender)}` : isIn(step) ? `stays ${where}` : "who got it is not told");
 const called = (step, number, answer = step.answer) => html`${number} <code>${step.line}</code> <span class="dim">${answer}</span>`;
 const sendText = (_, port, value) => `send ${readable(value)} on port ${port}`;
 const caseText = (text) => text.replace(/^s(\d+):(.*)/, sendText).replace(/^r/, "receive from port ");
@@ -16,7 +16,7 @@ function tellStep(step, page) {
     const { place, end, cases, partner, value } = step, { journal } = page, fired = step.endsBy("sgdc") ? end.number : -1;
     const ended = journal.endsOf(place, place + 1).filter((call) => call.place < place && !call.endsBy("S"));
     const moved = partner ? html`${step.endsBy("g") ? "from" : "to"} ${when(partner)}${lay(step)}` : kept(step, `in port ${step.port}`);
-    const near = (way) => journal.stepsOfProcess(step, way).next().value, told = (own) => (own ? link(own.place) : own === null ? "not told" : "none");
+    const at = (way) => journal.stepsOfProcess(step, way).next().value, told = (own) => (own ? link(own.place) : own === null ? "not told" : "none");
     const follow = html`<br><a href="#${wayLink(step)}">Follow it</a>`;
     const short = (one) => called(one, link(one.place, one.place + 1), one.end.by >= place ? "waits" : one.answer);  // told by then
     put({
@@ -25,7 +25,7 @@ function tellStep(step, page) {
         waited: step.waits && html`${counted(step.waited, "step")}${end.letter && html`; ended by ${ender(step)}`}`,
         value: step.endsBy("sg") && html`<b>${readable(value) ?? "not told"}</b> ${moved}${value !== null && follow}`,
         cases: items((cases.length > 1 ? cases : []).map((text, at) => html`<span class="${at === fired ? "fired" : ""}">${caseText(text)}</span>`)),
-        ended: items(ended.map((call) => html`the wait of ${who(call)}`)), process: html`P${step.pid}: ${told(near(-1))} before, ${told(near(1))} after`,
+        ended: items(ended.map((call) => html`the wait of ${who(call)}`)), process: html`P${step.pid}: ${told(at(-1))} before, ${told(at(1))} after`,
         before: items(journal.stepsOf(Math.max(0, place - 6), place).filter(Boolean).map(short)),
         ...movesText(place, page), ...stallText(journal.stallAt(place) ?? { calls: [], last: [] }, journal),
     });
@@ -46,12 +46,12 @@ function stallText(stall, journal) {  // a cause, what full ports hold, who wait
     const isMutual = ({ step, other }) => step?.pid < other && cases.some((one) => one.step.pid === other && one.other === step.pid);
     const mutual = cases.filter(isMutual).map(({ step, other }) => `P${step.pid} and P${other} perhaps wait for each other.`);
     const sent = (send, at) => html`${at > 0 ? "; " : ": "}${readable(send.value)}, sent by P${send.pid} at ${link(send.place)}`;
-    const holds = ({ port, count, held }) => html`port ${port} holds ${counted(count, "value")}${held.slice(0, 4).map(sent)}${held.length > 4 && "; .."}`;
-    const guesses = (call) => cases.filter(({ step, other }) => step === call && other >= 0).map(({ other }) => `; perhaps for P${other}`);
+    const holds = ({ port, count, held }) => html`port ${port} holds ${counted(count, "value")}${held.slice(0, 4).map(sent)}${held[4] && "; .."}`;
+    const whom = (call) => cases.filter(({ step, other }) => step === call && other >= 0).map(({ other }) => `; perhaps for P${other}`);
     const byPort = (of) => [...new Map(cases.filter(of).map((one) => [one.port, one])).values()];
     const last = byPort(({ port }) => port > 0).map(({ port, movers }) => [port, ...movers.map((place) => whoAt(place, journal.step(place)))]);
-    const waits = (step, at) => html`${whoAt(stall.calls[at], step)} waits${step && ` to ${step.cases.map(caseText).join(" or to ")}`}${guesses(step)}`;
-    const alone = calls.length === 1 && journal.procs > 1 ? ["All others have exited."] : [], cause = items([...new Set([...nobody, ...mutual, ...alone])]);
+    const waits = (step, at) => html`${whoAt(stall.calls[at], step)} waits${step && ` to ${step.cases.map(caseText).join(" or to ")}`}${whom(step)}`;
+    const rest = calls.length === 1 && journal.procs > 1 ? ["All others have exited."] : [], cause = items([...new Set(nobody.concat(mutual, rest))]);
     return { cause, full: items(byPort(({ count }) => count > 0).map(holds)), stalled: items(calls.map(waits)), last: rowsOf(last) };
 }
 function tellWhole(journal, story) {  // of deadlocks the first and the last four
@@ -72,7 +72,7 @@ function tellWhole(journal, story) {  // of deadlocks the first and the last fou
         early: `not told: steps 1 to ${first}, but for boxes`, late: `not told: steps ${end + 1} to ${steps}, but for boxes`,
         stalls: items([...stalls.slice(0, 1).map(stalled), ...gap, ...stalls.slice(1).slice(-4).map(stalled)]),
         longest: rowsOf(longest.map(([, step, pid, waited]) => [waited, ...wait(journal.step(step - 1), step - 1, pid)])),
-        ties: ties > 0 && longest.length > 4 && html`<button onclick="page.countTies('waited ${least}', ${ties})">How many more waited ${least}?</button>`,
+        ties: longest[4] && ties > 0 && html`<button onclick="page.countTies('waited ${least}', ${ties})">How many more waited ${least}?</button>`,
         held: boxes(true), empty: boxes(false), processes: rowsOf(waits.map((waited, lane) => [name(lane), asks[lane], waited, exit(lane), shownAs(lane)])),
         end: { html: story.replace(/^ *\d+ +P.*\n|, the longest first.*|^ {10}/gm, "").replace(/(?<=step )\d+/g, (step) => link(step - 1, step).html) },
     });

@@ -1,5 +1,5 @@
 // What is in view: a window of steps, lanes of processes, strips of ports, and what stands there; and what words mean that are looked for.
-const LEFT = 64, RIGHT = 44, AXIS = 26, STRIP = 24, FOLDED = 8, LEAST_LANE = 16, MOST_LANE = 40, NEAREST = 90, CLOSE = 18;  // dots
+const LEFT = 64, RIGHT = 44, AXIS = 26, STRIP = 24, FULL = 16, FOLDED = 8, LEAST_LANE = 16, MOST_LANE = 40, NEAREST = 90, CLOSE = 18;  // dots
 const MOST_NEAR = 500, MOST_SHAPES = 6000;  // so many steps have arrows, and tell what they are; so many are drawn one by one
 class View {
     constructor(journal, changed) {  // at the left edge is the step first, with a fraction; ports have a strip if they held a value
@@ -51,9 +51,9 @@ class View {
         return [...receivers.values()].filter((to) => to?.sender?.end.by >= 0 && this.isShown(to, to.sender));
     }
     levels() {  // what ports hold as far as it can be seen, and is told: each count from one step until another
-        const { journal } = this, [first, last] = this.range(), end = Math.min(journal.end, last + 1), start = Math.max(first, Math.min(journal.first, end));
-        const told = new Map(this.strips().map((port) => [port, [{ port, from: start - 1, count: journal.levelBefore(start, port) }]]));
-        for (const level of numbers(journal.blockAt(start), Math.ceil(end / BLOCK)).flatMap((at) => journal.block(at).levels))
+        const [first, last] = this.range(), end = Math.min(this.journal.end, last + 1), start = Math.max(first, Math.min(this.journal.first, end));
+        const told = new Map(this.strips().map((port) => [port, [{ port, from: start - 1, count: this.journal.levelBefore(start, port) }]]));
+        for (const level of numbers(this.journal.blockAt(start), Math.ceil(end / BLOCK)).flatMap((at) => this.journal.block(at).levels))
             if (level.from >= start && level.from < end && level.count !== told.get(level.port)?.at(-1).count) told.get(level.port)?.push(level);
         const levels = [...told.values()].flatMap((own, row) => own.map((level, at) => ({ ...level, row, until: own[at + 1]?.from ?? end })));
         return levels.filter((level) => level.count !== 0 && level.until >= first && level.from < Math.min(last, end));

@@ -55,7 +55,7 @@ class Page {
     }
     async find(words) {  // search, list by list, so that the page stays awake: all steps, or those of the way of a value
         const { journal } = this, [, way] = /^way (\\d+)$/i.exec(words) ?? [], start = journal.step(way - 1)?.sender, found = [];
-        const parts = way ? [] : words.match(/(port|step|before|waited) \\d+|P\\d+|=\\S+|\\S+/gi) ?? [], isAt = (end) => parts.some((part) => end.test(part));
+        const parts = way ? [] : words.match(/(port|step|before|waited) \\d+|\\S+/gi) ?? [], isAt = (end) => parts.some((part) => end.test(part));
         const tests = parts.filter((part) => !ENDMOST.includes(part)).map((part) => testOf(part));
         let told = performance.now();
         Object.assign(this, { words, found, marks: new Set() });

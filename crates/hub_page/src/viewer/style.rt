@@ -51,7 +51,8 @@ button:hover { background: var(--soft); }
 #far, #lanes { position: absolute; top: 0; left: 0; }
 #lanes { height: var(--bottom); touch-action: none; cursor: default; }
 /* The steps outside of the window of a page stand left of the first one told, and from the end of these on. */
-#early, #late { position: absolute; top: 0; height: var(--bottom); padding-top: 28px; overflow: hidden; text-overflow: ellipsis; white-space: nowrap; text-align: center; background: var(--untold); }
+#early, #late { position: absolute; top: 0; height: var(--bottom); padding-top: 27px; font: 11px/12px system-ui, sans-serif; text-align: center; }
+#early, #late { overflow: hidden; text-overflow: ellipsis; white-space: nowrap; background: var(--untold); }
 #early { left: 64px; width: calc(min(100%, var(--first)) - 64px); }
 #late { left: max(64px, var(--end)); width: calc(min(100%, var(--steps)) - max(64px, var(--end))); }
 #scroll:has(.counted) > :is(#early, #late) { display: none; }

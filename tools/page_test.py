@@ -173,6 +173,7 @@ class Part(picture.Journal):
 
     def __init__(self, text, first, last):
         super().__init__(text)
+        self.whole = picture.Journal(text)
         self.window, self.told = range(first - 1, last), set(range(first - 1, last))
         for one in super().asked():
             by = one.ended.by if one.ended else NEVER
@@ -681,6 +682,14 @@ def check_part_panel(browser, journal):
     wanted = [f"Steps {first + 1} to {end} are told, and of the others those that bear on them."] if end - first < count else [""]
     told = texts(browser, "#told")
     assert told == wanted and not JUNK.search(whole), (told, whole)
+    rows = []
+    for steps, words, until in list(waits_told(journal.whole))[:5]:
+        one = journal.asked()[int(re.search(r"step (\d+)", words)[1]) - 1]
+        words = f"P{pid_at(journal, one.place)}, step {one.place + 1}"
+        told = [f"{words} {one.line} {answer_of(one)}", "not told" if one.ended and math.isnan(one.ended.by) else until]
+        rows += [steps, *(told if one.place in journal.told else [f"{words} (not told)"])]
+    told = texts(browser, "#longest td")
+    assert told == rows, f"{told} and not {rows}"
     inside = sorted(journal.told & set(journal.window))
     outside = sorted(journal.told - set(journal.window))
     for place in [*inside[:2], *inside[-2:], *outside[:: len(outside) // 8 + 1], *{by for by, _, _ in journal.stalls}]:

@@ -7,7 +7,7 @@ const when = (step) => html`${who(step)}${step.waits && html`, waiting until ${l
 const lay = ({ sender, receiver }) => (receiver.end.by > sender.end.by ? `; ${counted(receiver.end.by - sender.end.by, "step")} in the port` : "");
 const ender = (step) => (step.endsBy("S") ? html`the deadlock at ${link(step.end.by)}` : whoAt(step.end.by, step.journal.step(step.end.by)));
 const who = (step) => html`P${step.pid}, ${link(step.place)}`, isIn = ({ journal, place }) => journal.isIn(place);
-const whoAt = (place, step) => (step ? who(step) : place >= 0 ? `step ${place + 1} (not told)` : "nobody");
+const whoAt = (place, step) => (step ? who(step) : place >= 0 ? `step ${place + 1} (not told)` : place < 0 ? "nobody" : "not told");
 const kept = (step, where) => (step.endsBy("g") ? `from ${whoAt(step.end.sender)}` : isIn(step) ? `stays ${where}` : "who got it is not told");
 const called = (step, number, answer = step.answer) => html`${number} <code>${step.line}</code> <span class="dim">${answer}</span>`;
 const sendText = (_, port, value) => `send ${readable(value)} on port ${port}`;

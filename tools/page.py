@@ -25,12 +25,12 @@ ENDS = {"sent": "s", "got": "g", "drained": "d", "closed": "c", "default": "D", 
 
 
 class Step:
-    """A step that was asked, while something later may tell of it."""
+    """A step that was asked, while something later may tell of it; and by which step it ended."""
 
-    __slots__ = ("place", "pid", "cases")
+    __slots__ = ("place", "pid", "cases", "by")
 
     def __init__(self, place, pid, cases):
-        self.place, self.pid, self.cases = place, pid, cases
+        self.place, self.pid, self.cases, self.by = place, pid, cases, None
 
 
 class Port:
@@ -76,12 +76,14 @@ class Sketch:
 
 
 class Data:
-    """The data of a journal, line by line, of which those of steps that are not told are empty. A window is its first step and the last."""
+    """The data of a journal, line by line, of which those of steps that are not told are empty. Asked for are its first step and the last,
+    and the window has all steps of their blocks, and of those between."""
 
-    def __init__(self, lines, write, window=None):
+    def __init__(self, lines, write, asked=None):
         head, procs, *lines = (line.rstrip("\n") for line in lines)
-        first, last = window or (1, len(lines))
-        self.procs, self.window = int(procs.split()[1]), range(first - 1, last)
+        first, last = asked or (1, len(lines))
+        clock = story_model.clock_of(int(head.split()[2]), int(procs.split()[1]), lines)
+        self.procs, self.window = int(procs.split()[1]), range((first - 1) // BLOCK * BLOCK, min(len(lines), -(-last // BLOCK) * BLOCK))
         self.hub = model.Hub(int(head.split()[2]), self.procs)
         self.ports, self.waiting = collections.defaultdict(Port), {}  # by process, in the order of arrival
         self.sketch, self.told = Sketch(0), set(self.window)
@@ -92,7 +94,7 @@ class Data:
             texts.append(self.line(place, line))
             if (place + 1) % BLOCK == 0 or place + 1 == len(lines):
                 sketches.append(self.end_block(place + 1))
-        write(f"{head}\n{procs}\nsteps {first} {last}\n")
+        write(f"{head}\n{procs}\nsteps {first} {last}" + ("\n" if clock == story_model.NOBODY else f" clock {clock}\n"))
         for place, text in enumerate(texts):
             write(text if place in self.told else "\n")
             if (place + 1) % BLOCK == 0 or place + 1 == len(texts):
@@ -126,6 +128,7 @@ class Data:
             if words == ["parked"]:
                 self.waiting[own.pid] = own
             else:
+                step.by = place
                 items.append(self.end(place, step, words))
                 self.sketch.wait(self.lane(step), step.place, place)
                 if words == ["stalled"] or place >= self.window.start and step.place < self.window.stop:
@@ -170,10 +173,10 @@ class Data:
         return item
 
     def passed(self, sender, item):
-        """A step sent what another one received: each is told if the other one is in the window."""
+        """A step sent what another one received: if one of them is in the window, the other one is told, and by which steps they ended."""
         item.sender, ends = sender.place, {sender.place, item.step.place}
         if not ends.isdisjoint(self.window):
-            self.told |= ends
+            self.told |= ends | {sender.by, item.step.by}
 
     def text(self, place, item):
         if isinstance(item, str):

@@ -1,7 +1,7 @@
 // Reads the data of the page, as README.md defines them. Steps are counted from 0 here, and from 1 in what is shown. One that is not told is null.
 const BLOCK = 64, MOST_READ = 300, MOST_OWN = 1000, NEVER = 0xffffffff, STILL_WAITS = { by: Infinity, letter: "", number: 0 };
-const WORDS = { m: "make", s: "send", r: "recv", "?": "select", c: "close", x: "cancel", e: "exit" };
-const ENDS = { s: "sent", g: "got", d: "drained", c: "closed", D: "default", k: "done", S: "stalled", x: "cancelled", m: "made", f: "fault" };
+const WORDS = { m: "make", s: "send", r: "recv", "?": "select", c: "close", x: "cancel", e: "exit" }, ENDS = { s: "sent", g: "got", d: "drained",
+    c: "closed", D: "default", k: "done", S: "stalled", x: "cancelled", m: "made", f: "fault", t: "timed out", w: "woken" };  // by the clock, or its own
 const TABLES = { w: "waited", a: "asked", t: "troubles", o: "open", s: "sent", g: "got", m: "most" };  // by letters of sketches
 const numbers = (first, end) => Array.from({ length: Math.max(0, end - first) }, (_, at) => first + at);
 class Step {
@@ -46,11 +46,12 @@ function readBlock(journal, at) {  // steps, ends by them in their order, levels
     for (const [row, line] of journal.text.slice(...journal.bounds[at]).split("\n").entries()) {
         const [first, ...items] = line.split(";"), place = at * BLOCK + row, entry = /(\d+)(.)(.*)/.exec(first);
         block.steps.push(entry && new Step(journal, place, entry));
+        const letterOf = (sign) => (sign !== "x" ? sign : Number(entry[1]) === journal.clock ? "t" : Number(entry[3]) === journal.clock ? "w" : sign);
         for (const [, one, sign, two, three] of items.map((item) => /(\d+)(.)(\d*).?(\d*)/.exec(item))) {
             if (sign === ":") block.levels.push({ port: Number(one), from: place, count: Number(two) });
             else if (sign === ">") stall(place).last.at(-1).other = Number(two);
             else if (sign === "L") stall(place).last.push({ port: Number(one), movers: [two, three].map((back) => (back ? place - back : -1)) });
-            else block.ends.set(place - one, { by: place, letter: sign, number: Number(two), sender: place - three });
+            else block.ends.set(place - one, { by: place, letter: letterOf(sign), number: Number(two), sender: place - three });
             if (sign === "S") stall(place).calls.push(place - one);
         }
     }
@@ -58,18 +59,20 @@ function readBlock(journal, at) {  // steps, ends by them in their order, levels
 }
 class Journal {
     constructor(text) {
-        const [procs, from, end] = /procs (\d+)\nsteps (\d+) (\d+)/.exec(text).slice(1).map(Number), next = (at) => text.indexOf("\n", at) + 1;
-        const lanes = procs + 1, bounds = [];
+        const [procs, from, to, clock] = /procs (\d+)\nsteps (\d+) (\d+)(?: clock (\d+))?/.exec(text).slice(1).map(Number);
+        const lanes = procs + 1, bounds = [], next = (at) => text.indexOf("\n", at) + 1;
         for (let at = next(next(next(0))), sketch; (sketch = text.indexOf("~", at)) > 0; at = next(sketch)) bounds.push([at, sketch - 1]);
         const steps = bounds.length && (bounds.length - 1) * BLOCK + text.slice(...bounds.at(-1)).split("\n").length;
-        Object.assign(this, { text, procs, lanes, first: from - 1, end, bounds, steps, blocks: bounds.length, read: new Map() });
+        const first = from - 1 - (from - 1) % BLOCK, end = Math.min(steps, Math.ceil(to / BLOCK) * BLOCK);  // whole blocks are told
+        Object.assign(this, { text, procs, clock, lanes, from, to, first, end, bounds, steps, blocks: bounds.length, read: new Map() });
         const makes = this.placesOf(";0m"), last = this.blocks * lanes, gone = this.placesOf("e;0k");
         this.readSketches(makes.length + 1);
         const rooms = makes.map((place, at) => (this.mostOf(at + 1, 0, steps) ? Number(this.step(place).more) : 0));  // 0 if it never held a value
         const asks = [...this.asked.subarray(last)].filter((count, lane) => lane < procs || count > 0);  // behind them processes that there are not
         const exits = numbers(0, lanes).map((pid) => gone.find((place) => this.step(place).pid === pid) ?? null);
         const waits = asks.map((_, lane) => this.waited[last + lane] - (this.open[last + lane] !== NEVER));
-        Object.assign(this, { ports: makes.length, stalls: this.placesOf("S"), rooms, asks, waits, exits });
+        const isStall = (place) => this.stallAt(place).calls.some((call) => !this.isClock(this.step(call)));  // the clock's end is none
+        Object.assign(this, { ports: makes.length, stalls: this.placesOf("S").filter(isStall), rooms, asks, waits, exits });
     }
     placesOf(letters) {  // the steps in whose lines these letters stand
         const linesOf = (text) => (text.includes(letters) ? text.split("\n") : []), placeOf = (line, at) => (line.includes(letters) ? at : []);
@@ -99,13 +102,13 @@ class Journal {
     }
     step(place) { return place >= 0 && place < this.steps ? this.block(this.blockAt(place)).steps[place % BLOCK] : undefined; }
     stepsOf(first, end) { return numbers(first, end).map((place) => this.step(place)); }
-    endOf({ place, lane, cases }) {  // a call whose end alone is not told sent what a step of the window received
+    endOf({ place, lane }) {
         let at = this.blockAt(place);
         while (at < this.blocks && this.open[(at + 1) * this.lanes + lane] === place) at++;
-        return at === this.blocks ? STILL_WAITS : this.block(at).ends.get(place) ?? { by: NaN, letter: "s", number: cases[1] ? -1 : 0, block: at };
+        return at === this.blocks ? STILL_WAITS : this.block(at).ends.get(place);
     }
     receiverOf({ place, end, shown: { port } }) {  // it is told where no more values were received before than had been sent
-        const { sent, got, width } = this, begin = end.block ?? this.blockAt(end.by), most = sent[(begin + 1) * width + port];
+        const { sent, got, width } = this, begin = this.blockAt(end.by), most = sent[(begin + 1) * width + port];
         const receiverIn = (at) => [...this.block(at).ends].find(([, { letter, sender }]) => letter === "g" && sender === place);
         for (let at = begin, row = at * width + port, found; at < this.blocks && got[row] < most; at++, row += width)
             if (got[row + width] > got[row] && (found = receiverIn(at))) return this.step(found[0]);
@@ -118,14 +121,13 @@ class Journal {
     endsOf(first, end) { return this.goingOn(first, end).filter((step) => step.end.by < end); }
     stallAt(place) { return this.block(this.blockAt(place)).stalls[place]; }
     stallsOf(first, end) { return this.stalls.filter((place) => place >= first && place < end).map((place) => this.stallAt(place)); }
+    isClock(step) { return step?.pid === this.clock; }
+    nameOf(lane) { return lane === this.clock ? "clock" : lane < this.procs ? `P${lane}` : "unknown"; }
     isIn(place) { return place >= this.first && place < this.end; }
     get told() { return this.end - this.first < this.steps ? ", as far as it is told" : ""; }  // what is said of all steps
-    levelBefore(place, port) {  // what a port holds before a step of the window, or when it ends; NaN if that is not told
-        const at = Math.min(this.blockAt(place), this.blocks - 1), had = (at) => this.sent[at * this.width + port] - this.got[at * this.width + port];
-        const own = this.block(at).levels.filter((one) => one.port === port && this.isIn(one.from)), known = own.findLast(({ from }) => from < place);
-        if (known || at * BLOCK >= this.first) return known?.count ?? had(at);
-        const moves = (letter) => [...this.block(at).ends.values()].filter((end) => end.by === own[0].from && end.letter === letter).length;
-        return own.length ? own[0].count - moves("s") + moves("g") : this.end < this.endOfBlock(at) ? NaN : had(at + 1);
+    levelBefore(place, port) {  // what a port holds before a step of the window, or when it ends
+        const at = Math.min(this.blockAt(place), this.blocks - 1), row = at * this.width + port;
+        return this.block(at).levels.findLast((one) => one.port === port && one.from < place)?.count ?? this.sent[row] - this.got[row];
     }
     *blocksWith(table, width, column, at, direction, least = 0) {  // in which a number grows, from one on (1) or back (-1)
         for (; at >= least && at < this.blocks; at += direction)

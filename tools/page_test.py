@@ -672,6 +672,23 @@ def check_told(text, journal):
     assert [told for told, line in zip(lines[3:], whole) if line[0] == "~"] == [line for line in whole if line[0] == "~"], "sketches"
 
 
+def check_value(browser, journal, one):
+    """What the panel says of a value that a step moved: what it was, and where its other end is, if that is told."""
+    said, words, value = texts(browser, "#value")[0], words_of(one), value_of(one)
+    if not (" got " in words or words.split(" ")[-1:] == ["sent"]):
+        assert said == "", f"a value at step {one.place + 1}: {said}"
+        return
+    assert said.startswith(f"{'not told' if value is None else readable(value)} "), f"value of step {one.place + 1}: {said}"
+    if " got " in words:
+        sent = journal.senders[one.place][0]
+        wanted = f"from P{pid_at(journal, sent)}, step {sent + 1}" if sent in journal.told else f"from step {sent + 1} (not told)"
+    else:
+        received = next((received for received, sent in journal.senders.items() if sent[0] == one.place), None)
+        is_known = received in journal.told and journal.ended[received].by in journal.told and words != "sent"
+        wanted = f"to P{pid_at(journal, received)}, step {received + 1}" if is_known else "stays in port" if one.place in journal.window else "who got it is not told"
+    assert wanted in said, f"value of step {one.place + 1}: {said} and not {wanted}"
+
+
 JUNK = re.compile("null|undefined|NaN|Infinity|\\[object")
 
 
@@ -696,6 +713,7 @@ def check_part_panel(browser, journal):
         browser.value(f"page.choose({place})")
         said = browser.value("document.getElementById('panel').innerText")
         assert title(browser) == f"Step {place + 1} of P{pid_at(journal, place)}" and not JUNK.search(said), (place + 1, JUNK.search(said), said)
+        check_value(browser, journal, journal.asked()[place])
         before = [f"{one.place + 1} {one.line}" for one in journal.asked()[max(0, place - 6) : place] if one.place in journal.told]
         said = texts(browser, "#before li")
         assert len(said) == len(before) and all(map(str.startswith, said, before)), f"before step {place + 1}: {said} and not {before}"

@@ -173,15 +173,16 @@ class Part(picture.Journal):
 
     def __init__(self, text, first, last):
         super().__init__(text)
-        self.whole = picture.Journal(text)
-        self.window, self.told = range(first - 1, last), set(range(first - 1, last))
+        self.whole, self.shown = picture.Journal(text), (first, last)
+        blocks = [place for place in range(len(self.lines)) if (first - 1) // BLOCK <= place // BLOCK <= (last - 1) // BLOCK]
+        self.window, self.told = range(blocks[0], blocks[-1] + 1), set(blocks)
         for one in super().asked():
             by = one.ended.by if one.ended else NEVER
             if one.place < self.window.start <= by or one.line.split()[1] in ("make", "exit"):
                 self.told.add(one.place)
             if one.ended and (words_of(one) == "stalled" or by >= self.window.start and one.place < self.window.stop):
                 self.told.add(by)
-        self.told |= {one[0] for _, *both in self.passages() for one, other in (both, reversed(both)) if other[0] in self.window}
+        self.told |= {place for _, *both in self.passages() for one, other in (both, reversed(both)) if other[0] in self.window for place in one[:2]}
         self.senders = {received[0]: sent for _, sent, received in self.passages()}
         self.as_told = [self.known(one) for one in super().asked()]
 
@@ -189,24 +190,11 @@ class Part(picture.Journal):
         return self.as_told
 
     def known(self, one):
-        """Of a call whose end is not told it is known that it sent, but for a select not by which case; who got an unknown value got one."""
-        words = words_of(one)
-        if " got " in words and self.sender(one.place) is None:
+        """Who got a value that is not told got one. How the calls of told steps ended is told, and when."""
+        assert one.place not in self.told or one.ended is None or one.ended.by in self.told, f"the end of step {one.place + 1}"
+        if " got " in words_of(one) and self.senders[one.place][0] not in self.told:
             return one._replace(ended=one.ended._replace(event=one.ended.event[: one.ended.event.index(" got ")] + " got a value"))
-        if one.ended is None or one.ended.by in self.told:
-            return one
-        return one._replace(ended=picture.Told(math.nan, one.ended.event if len(one.cases) == 1 else one.line.split()[0] + " sent"))
-
-    def sender(self, place):
-        """Who sent what a step received, if that and the value are told."""
-        sent = self.senders[place]
-        return sent[0] if sent[0] in self.told and (sent[1] in self.told or len(picture.cases_of(self.lines[sent[0]])) == 1) else None
-
-    def holds(self, port):
-        """Whether it is known how many values a port holds in the window: the edge of a block tells it, or a step by which one moves."""
-        first, end = self.window.start, self.window.stop
-        at_edge = first % BLOCK == 0 or end >= min(len(self.lines), first // BLOCK * BLOCK + BLOCK)
-        return at_edge or any(by in self.window for side in "sr" for _, by, _ in self.moved[side][port])
+        return one
 
 
 def is_told(journal, *places):
@@ -340,7 +328,7 @@ def held_lines(journal, by):
         held = held_after(journal, port, by)
         known = known_of(journal, held)
         told = [f"{readable(value_of(asked[place]))}, sent by P{pid_at(journal, place)} at step {place + 1}" for place in known[:4]]
-        if held and not (isinstance(journal, Part) and not journal.holds(port)):
+        if held:
             yield f"port {port} holds {len(held)} value{'s' if len(held) > 1 else ''}" + (": " if told else "") + "; ".join([*told, *[".."][: len(known) > 4]])
 
 
@@ -477,9 +465,7 @@ def bars_of(drawn, journal, first, end, left):
 
 def levels_of(drawn, journal, first, end):
     count, window = len(journal.lines), journal.window if isinstance(journal, Part) else range(len(journal.lines))
-    known = [level for level in held(journal) if window.start == 0 or journal.holds(level.port)]
-    unknown = [picture.Held(port, 0, None, journal.room[port]) for port in drawn.ports if window.start > 0 and not journal.holds(port)]
-    for level in known + unknown:
+    for level in held(journal):
         until, since = min(count if level.until is None else level.until, window.stop), max(level.first, window.start - 1)
         if since < min(end, window.stop) and until >= max(first, window.start):
             left = max(64.0, drawn.x(since))
@@ -635,15 +621,15 @@ def check_part(browser, count, work, text, name, window, several):
     """A page of some steps: it opens with them in view; nothing that is not told is drawn, found, chosen or said."""
     journal = Part(text.encode(), *window)
     open_page(browser, text, work / "part.html", window)
-    name = f"steps {window[0]} to {window[1]} of {name}"
+    name, (first, last) = f"steps {window[0]} to {window[1]} of {name}", window
 
     def test(drawn, at):
         (check_shapes if drawn.dots * 500 >= drawn.width - 108 else check_canvas)(drawn, journal, *at)
         check_fields(browser, drawn, journal)
 
     opened = browser.value("[page.view.first, page.view.steps, (page.view.width - 64) / 90]")
-    steps = min(len(journal.lines), max(len(journal.window), opened[2]))
-    count.test(f"{name} are in view", close(opened[:2], [float(min(journal.window.start, len(journal.lines) - steps)), float(steps)], 0.5), opened)
+    steps = min(len(journal.lines), max(last - first + 1, opened[2]))
+    count.test(f"{name} are in view", close(opened[:2], [float(min(first - 1, len(journal.lines) - steps)), float(steps)], 0.5), opened)
     for view in [tuple(opened[:2]), *several]:
         count.run(f"{name}: view {view}", lambda: test(*drawn_at(browser, journal, *view)))
     count.run(f"{name}: what is told", lambda: check_told(text, journal))
@@ -663,8 +649,8 @@ def check_fields(browser, drawn, journal):
 
 
 def check_told(text, journal):
-    lines = data_of(text, (journal.window.start + 1, journal.window.stop)).splitlines()
-    assert lines[2] == f"steps {journal.window.start + 1} {journal.window.stop}", lines[2]
+    lines, (first, last) = data_of(text, journal.shown).splitlines(), journal.shown
+    assert lines[2] == f"steps {first} {last}", lines[2]
     whole = data_of(text).splitlines()[3:]
     steps = [line for line in zip(lines[3:], whole) if not line[1].startswith("~")]
     for place, (told, line) in enumerate(steps):
@@ -684,7 +670,7 @@ def check_value(browser, journal, one):
         wanted = f"from P{pid_at(journal, sent)}, step {sent + 1}" if sent in journal.told else f"from step {sent + 1} (not told)"
     else:
         received = next((received for received, sent in journal.senders.items() if sent[0] == one.place), None)
-        is_known = received in journal.told and journal.ended[received].by in journal.told and words != "sent"
+        is_known = received in journal.told
         wanted = f"to P{pid_at(journal, received)}, step {received + 1}" if is_known else "stays in port" if one.place in journal.window else "who got it is not told"
     assert wanted in said, f"value of step {one.place + 1}: {said} and not {wanted}"
 
@@ -703,7 +689,7 @@ def check_part_panel(browser, journal):
     for steps, words, until in list(waits_told(journal.whole))[:5]:
         one = journal.asked()[int(re.search(r"step (\d+)", words)[1]) - 1]
         words = f"P{pid_at(journal, one.place)}, step {one.place + 1}"
-        told = [f"{words} {one.line} {answer_of(one)}", "not told" if one.ended and math.isnan(one.ended.by) else until]
+        told = [f"{words} {one.line} {answer_of(one)}", until]
         rows += [steps, *(told if one.place in journal.told else [f"{words} (not told)"])]
     told = texts(browser, "#longest td")
     assert told == rows, f"{told} and not {rows}"
@@ -766,6 +752,41 @@ def check_edges(browser, count, work):
         open_page(browser, text, work / "edges.html")
         count.run(f"sketches of {total} steps", lambda: check_sketches(text, journal))
         count.run(f"data of {total} steps", lambda: check_data(browser, journal))
+
+
+CLOCK = """chanhub journal 2
+procs 3
+2 recv 0
+0 make 0
+0 cancel 2
+0 recv 1
+2 cancel 0
+2 recv 0
+1 recv 1
+0 exit
+2 recv 0
+1 exit
+"""
+
+
+def check_clock(browser, count, work):
+    """A call that the clock cancels has timed out; the clock is woken, and is nobody who waits for others; its own end is no deadlock."""
+    open_page(browser, CLOCK, work / "clock.html")
+    names = texts(browser, "#lanes .name")
+    count.test("the clock's lane has its name", names == ["P0", "P1", "clock"], names)
+    answers = browser.value("page.journal.stepsOf(0, 10).map((step) => step.answer)")
+    count.test("answers by the clock, and to it", answers == ["woken", "made 1", "done", "timed out", "done", "woken", "stalled", "done", "woken", "done"], answers)
+    found_by = found(browser, "timed", "woken", "cancelled", "deadlock")
+    count.test("search for what the clock does", found_by == [[3], [0, 5, 8], [], [7]], found_by)
+    told = texts(browser, "#deadlocks"), texts(browser, "#stalls li")
+    count.test("the clock is not among those who are stalled", told == (["1 deadlock"], ["step 8 stalls P1"]), told)
+    browser.value("page.choose(7)")
+    said = texts(browser, "#cause li"), texts(browser, "#stalled li")
+    wanted = ["Before it nobody sent on port 1.", "All others have exited."], ["P1, step 7 waits to receive from port 1"]
+    count.test("nor among those who wait in a deadlock", said == wanted, said)
+    open_page(browser, CLOCK.replace("0 cancel 2\n0 recv 1\n2 cancel 0\n", "0 send 1 5\n"), work / "clock.html")
+    names = texts(browser, "#lanes .name")
+    count.test("a clock is known by its first step alone", names == ["P0", "P1", "clock"], names)
 
 
 BURST = "chanhub journal 1\nprocs 2\n0 make 100\n" + "".join(f"0 send 1 {n}\n" for n in range(100)) + "1 recv 1\n" * 90
@@ -1619,6 +1640,7 @@ def main():
         for seed, total in LONG:
             check_long(browser, count, work, seed, total)
         count.run("few steps", lambda: check_edges(browser, count, work))
+        count.run("a clock", lambda: check_clock(browser, count, work))
         count.run("values that lie in a port", lambda: check_burst(browser, count, work))
         count.test("no error in the console of right pages", not browser.errors, browser.errors[:2])
         count.run("wrong data", lambda: check_notices(browser, count, work))

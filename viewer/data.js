@@ -46,12 +46,11 @@ function readBlock(journal, at) {  // steps, ends by them in their order, levels
     for (const [row, line] of journal.text.slice(...journal.bounds[at]).split("\n").entries()) {
         const [first, ...items] = line.split(";"), place = at * BLOCK + row, entry = /(\d+)(.)(.*)/.exec(first);
         block.steps.push(entry && new Step(journal, place, entry));
-        const letterOf = (sign) => (sign !== "x" ? sign : Number(entry[1]) === journal.clock ? "t" : Number(entry[3]) === journal.clock ? "w" : sign);
         for (const [, one, sign, two, three] of items.map((item) => /(\d+)(.)(\d*).?(\d*)/.exec(item))) {
             if (sign === ":") block.levels.push({ port: Number(one), from: place, count: Number(two) });
             else if (sign === ">") stall(place).last.at(-1).other = Number(two);
             else if (sign === "L") stall(place).last.push({ port: Number(one), movers: [two, three].map((back) => (back ? place - back : -1)) });
-            else block.ends.set(place - one, { by: place, letter: letterOf(sign), number: Number(two), sender: place - three });
+            else block.ends.set(place - one, { by: place, letter: sign, number: Number(two), sender: place - three });
             if (sign === "S") stall(place).calls.push(place - one);
         }
     }
@@ -71,8 +70,7 @@ class Journal {
         const asks = [...this.asked.subarray(last)].filter((count, lane) => lane < procs || count > 0);  // behind them processes that there are not
         const exits = numbers(0, lanes).map((pid) => gone.find((place) => this.step(place).pid === pid) ?? null);
         const waits = asks.map((_, lane) => this.waited[last + lane] - (this.open[last + lane] !== NEVER));
-        const isStall = (place) => this.stallAt(place).calls.some((call) => !this.isClock(this.step(call)));  // the clock's end is none
-        Object.assign(this, { ports: makes.length, stalls: this.placesOf("S").filter(isStall), rooms, asks, waits, exits });
+        Object.assign(this, { ports: makes.length, stalls: this.placesOf("S").filter((at) => this.stallAt(at).calls[0] >= 0), rooms, asks, waits, exits });
     }
     placesOf(letters) {  // the steps in whose lines these letters stand
         const linesOf = (text) => (text.includes(letters) ? text.split("\n") : []), placeOf = (line, at) => (line.includes(letters) ? at : []);
@@ -102,10 +100,11 @@ class Journal {
     }
     step(place) { return place >= 0 && place < this.steps ? this.block(this.blockAt(place)).steps[place % BLOCK] : undefined; }
     stepsOf(first, end) { return numbers(first, end).map((place) => this.step(place)); }
-    endOf({ place, lane }) {
+    endOf({ place, lane, pid }) {
         let at = this.blockAt(place);
         while (at < this.blocks && this.open[(at + 1) * this.lanes + lane] === place) at++;
-        return at === this.blocks ? STILL_WAITS : this.block(at).ends.get(place);
+        const end = at === this.blocks ? STILL_WAITS : this.block(at).ends.get(place), ofClock = pid === this.clock && { x: "w", S: "w" }[end.letter];
+        return { ...end, letter: ofClock || (end.letter === "x" && this.step(end.by)?.pid === this.clock ? "t" : end.letter) };
     }
     receiverOf({ place, end, shown: { port } }) {  // it is told where no more values were received before than had been sent
         const { sent, got, width } = this, begin = this.blockAt(end.by), most = sent[(begin + 1) * width + port];
@@ -119,9 +118,10 @@ class Journal {
         return [...waiting, ...numbers(at * BLOCK, end)].map((place) => this.step(place)).filter((step) => step?.end.by >= first);
     }
     endsOf(first, end) { return this.goingOn(first, end).filter((step) => step.end.by < end); }
-    stallAt(place) { return this.block(this.blockAt(place)).stalls[place]; }
+    stallAt(place, stall = this.block(this.blockAt(place)).stalls[place]) {  // the clock waits for nobody, so its call is left out
+        return stall && { ...stall, all: stall.calls, calls: stall.calls.filter((call) => this.step(call)?.pid !== this.clock) };
+    }
     stallsOf(first, end) { return this.stalls.filter((place) => place >= first && place < end).map((place) => this.stallAt(place)); }
-    isClock(step) { return step?.pid === this.clock; }
     nameOf(lane) { return lane === this.clock ? "clock" : lane < this.procs ? `P${lane}` : "unknown"; }
     isIn(place) { return place >= this.first && place < this.end; }
     get told() { return this.end - this.first < this.steps ? ", as far as it is told" : ""; }  // what is said of all steps
@@ -139,10 +139,10 @@ class Journal {
             .flatMap((at) => [...this.block(at).ends].filter(isOwn).reverse()).map(([call]) => this.step(call)).filter((step) => step.port === port);
         return { count, held: [...sends.take(count)].reverse() };
     }
-    casesOf({ place, calls, last }) {  // a guess: a port of which one took its own value back last is a lock, and its value's sender has it
+    casesOf({ place, all, last }) {  // a guess: a port of which one took its own value back last is a lock, and its value's sender has it
         if (!this.isIn(place)) return last;
-        const steps = calls.map((call) => this.step(call)), all = steps.flatMap((step) => step.offers.map((offer) => ({ step, offer })));
-        return all.map(({ step, offer }, at) => {
+        const steps = all.map((call) => this.step(call)), cases = steps.flatMap((step) => step.offers.map((offer) => ({ step, offer })));
+        return cases.map(({ step, offer }, at) => {
             const { port, movers: [, taker], other } = last[at], { sender, pid } = this.step(taker) ?? {};
             const own = offer[0] === "s" ? this.heldAt(place, port) : { count: 0, held: [] }, isKnown = sender || !(taker >= 0) || offer[0] === "r";
             const isOwner = (send) => sender && sender.pid === pid && steps.some((one) => one.pid === send.pid && !one.offers.includes(offer));

@@ -133,7 +133,7 @@ class Painter {
         const others = numbers(0, journal.procs).filter((lane) => lane !== journal.clock);
         this.begin(canvas, width, 54);
         const shares = isSummed ? others.map((lane) => (first, end) => journal.share("waited", lane, first, end))
-            : journal.goingOn(0, journal.steps).filter((call) => call.waits && !journal.isClock(call)).map((call) => (first, end) => call.share(first, end));
+            : journal.goingOn(0, journal.steps).filter(({ waits, pid }) => waits && pid !== journal.clock).map((one) => (first, end) => one.share(first, end));
         const waiting = (first, end) => shares.reduce((sum, share) => sum + share(first, end), 0) / others.length;
         this.fillColumns("h1", 0, width, 48, (column) => 32 * waiting(column * scale, (column + COLUMN) * scale), 1);
         for (const place of stalls) this.fill("trouble", x(place), 16, Math.max(2, x(1)), 32);

@@ -2,7 +2,7 @@
 const items = (texts) => texts.map((text) => html`<li>${text}</li>`);
 const rowsOf = (rows) => rows.map((row) => html`<tr>${row.map((cell) => html`<td>${cell}</td>`)}</tr>`);
 const stepLink = (place) => `step=${place + 1}`, wayLink = ({ place }) => `${stepLink(place)}&find=way ${place + 1}`;
-const link = (place, words = `step ${place + 1}`) => html`<a href="#${stepLink(place)}">${words}</a>`;
+const link = (place, words = `step ${place + 1}`, to = stepLink(place)) => html`<a href="#${to}">${words}</a>`;
 const when = (step) => html`${who(step)}${step.waits && html`, waiting until ${link(step.end.by, step.end.by + 1)}`}`;
 const lay = ({ sender, receiver }) => (receiver.end.by > sender.end.by ? `; ${counted(receiver.end.by - sender.end.by, "step")} in the port` : "");
 const ender = (step) => (step.endsBy("S") ? html`the deadlock at ${link(step.end.by)}` : whoAt(step.end.by, step.journal.step(step.end.by)));
@@ -21,7 +21,7 @@ function tellStep(step, page) {
         name: `Step ${place + 1} of P${step.pid}`, line: step.line, number: `line ${place + 3} of the journal`,
         answer: html`<b class="${step.isTrouble ? "trouble" : ""}">${step.answer}</b>`,
         waited: step.waits && html`${counted(step.waited, "step")}${end.letter && html`; ended by ${ender(step)}`}`,
-        value: step.endsBy("sg") && html`<b>${readable(value) ?? "not told"}</b> ${moved}${value !== null && html`<br><a href="#${wayLink(step)}">Follow it</a>`}`,
+        value: step.endsBy("sg") && html`<b>${readable(value) ?? "not told"}</b> ${moved}${value && html`<br>${link(place, "Follow it", wayLink(step))}`}`,
         cases: items((cases.length > 1 ? cases : []).map((text, at) => html`<span class="${at === fired ? "fired" : ""}">${caseText(text)}</span>`)),
         ended: items(ended.map((call) => html`the wait of ${who(call)}`)), process: html`P${step.pid}: ${told(at(-1))} before, ${told(at(1))} after`,
         before: items(journal.stepsOf(Math.max(0, place - 6), place).filter(Boolean).map(short)),
@@ -38,7 +38,7 @@ function movesText(place, { journal, found, words, isFollowing }) {  // those fo
     return { way, moves: items(sends.map((send) => html`<span class="${isOwn(send) && "fired"}">${text(send)}</span>`)) };
 }
 function stallText(stall, journal) {  // a cause, what full ports hold, who waits, with guesses for whom, and who was there last
-    const cases = journal.casesOf(stall), calls = stall.calls.map((call) => journal.step(call)), isOther = (step) => !journal.isClock(step);
+    const cases = journal.casesOf(stall), calls = stall.calls.map((call) => journal.step(call));
     const absent = cases.filter(({ port, offer, movers }) => port > 0 && offer && !(movers[offer[0] === "s" ? 1 : 0] >= 0));
     const nobody = absent.map(({ port, offer }) => `Before it nobody ${offer[0] === "s" ? "received from" : "sent on"} port ${port}.`);
     const isMutual = ({ step, other }) => step?.pid < other && cases.some((one) => one.step.pid === other && one.other === step.pid);
@@ -48,20 +48,20 @@ function stallText(stall, journal) {  // a cause, what full ports hold, who wait
     const whom = (call) => cases.filter(({ step, other }) => step === call && other >= 0).map(({ other }) => `; perhaps for P${other}`);
     const byPort = (of) => [...new Map(cases.filter(of).map((one) => [one.port, one])).values()];
     const last = byPort(({ port }) => port > 0).map(({ port, movers }) => [port, ...movers.map((place) => whoAt(place, journal.step(place)))]);
-    const waits = (step, at) => isOther(step) && html`${whoAt(stall.calls[at], step)} waits${step && ` to ${step.cases.map(caseText).join(" or to ")}`}${whom(step)}`;
-    const rest = calls.filter(isOther).length === 1 && journal.procs > 1 ? ["All others have exited."] : [], cause = items([...new Set(nobody.concat(mutual, rest))]);
-    return { cause, full: items(byPort(({ count }) => count > 0).map(holds)), stalled: items(calls.map(waits).filter(Boolean)), last: rowsOf(last) };
+    const waits = (step, at) => html`${whoAt(stall.calls[at], step)} waits${step && ` to ${step.cases.map(caseText).join(" or to ")}`}${whom(step)}`;
+    const rest = calls.length === 1 && journal.procs > 1 ? ["All others have exited."] : [], cause = items([...new Set(nobody.concat(mutual, rest))]);
+    return { cause, full: items(byPort(({ count }) => count > 0).map(holds)), stalled: items(calls.map(waits)), last: rowsOf(last) };
 }
 function tellWhole(journal, story) {  // of deadlocks the first and the last four
     const { steps, first, end, procs, stalls, rooms, asks, waits, exits } = journal, left = stalls.length - 5;
-    const names = (steps) => [...steps.filter(isNamed).map(({ pid }) => `P${pid}`), ...(steps.includes(null) ? ["some not told"] : [])].join(", ");
+    const names = (steps) => [...steps.filter(Boolean).map(({ pid }) => `P${pid}`), ...(steps.includes(null) ? ["some not told"] : [])].join(", ");
     const stalled = (place) => html`${link(place)} stalls ${names(journal.stallAt(place).calls.map((call) => journal.step(call)))}`;
     const gap = left > 0 ? [html`and <a href="#find=deadlock">${left} more</a>, then`] : [];
     const longest = [...story.matchAll(/^ *(\d+) +(P\d+) .* (\d+), /gm)], least = longest.at(-1)?.[3];
     const until = (step) => (step.end.letter ? ender(step) : "the end"), ties = longest.filter((one) => !journal.told && one[3] === least).length;
     const wait = (step, place, pid) => (step ? [called(step, who(step)), until(step)] : [`${pid}, ${whoAt(place)}`]);
     const shownAs = (lane) => html`<select data-process="${lane}" aria-label="${lane} shown as">${{ html: byId("forms").innerHTML }}</select>`;
-    const exit = (lane) => exits[lane] !== null && link(exits[lane]), isNamed = (step) => step && !journal.isClock(step);
+    const exit = (lane) => exits[lane] !== null && link(exits[lane]), name = (lane) => journal.nameOf(lane);
     const box = (port) => html`<label><input type="checkbox" data-port="${port}" ${rooms[port - 1] > 0 && "checked"}> port ${port}</label> `;
     const boxes = (isHeld) => numbers(1, rooms.length + 1).filter((port) => isHeld === rooms[port - 1] > 0).map(box);
     put({
@@ -71,7 +71,7 @@ function tellWhole(journal, story) {  // of deadlocks the first and the last fou
         stalls: items([...stalls.slice(0, 1).map(stalled), ...gap, ...stalls.slice(1).slice(-4).map(stalled)]),
         longest: rowsOf(longest.map(([, step, pid, waited]) => [waited, ...wait(journal.step(step - 1), step - 1, pid)])),
         ties: longest[4] && ties > 0 && html`<button onclick="page.countTies('waited ${least}', ${ties})">How many more waited ${least}?</button>`,
-        held: boxes(true), empty: boxes(false), processes: rowsOf(waits.map((waited, lane) => [journal.nameOf(lane), asks[lane], waited, exit(lane), shownAs(lane)])),
+        held: boxes(true), empty: boxes(false), processes: rowsOf(waits.map((waited, lane) => [name(lane), asks[lane], waited, exit(lane), shownAs(lane)])),
         end: { html: story.replace(/^ *\d+ +P.*\n|, the longest first.*|^ {10}/gm, "").replace(/(?<=step )\d+/g, (step) => link(step - 1, step).html) },
     });
 }

@@ -44,7 +44,7 @@ pub(super) const TEXT: &[u8] = b"</style>
 <tr><td>click a bar, <kbd>w</kbd></td><td>go to the step that ended the wait</td></tr>
 <tr><td>click an arrow, <kbd>f</kbd></td><td>follow a value on its way from port to port, with all else paler, or end that: if a process sends the value that it got, before it gets another, it passes that value on</td></tr>
 <tr><td><kbd>g</kbd></td><td>go to the value's other end</td></tr>
-<tr><td><kbd>/</kbd>, <kbd>Enter</kbd></td><td>find, beginning at the chosen step: P3, port 2, =17 (all equal values), stalled (calls), deadlock (the steps that stalled them), cancelled, waited, waited 53 (steps), send, step 60, before 60, way 60 (of the value that step 60 moved), or several of them. With first or last: begin there; with before: at the last one found</td></tr>
+<tr><td><kbd>/</kbd>, <kbd>Enter</kbd></td><td>find, beginning at the chosen step: P3, port 2, =17 (all equal values), stalled (calls), deadlock (the steps that stalled them), cancelled, timed (out), waited, waited 53 (steps), send, step 60, before 60, way 60 (of the value that step 60 moved), or several of them. With first or last: begin there; with before: at the last one found</td></tr>
 <tr><td><kbd>n</kbd> or <kbd>Enter</kbd>, <kbd>p</kbd>, <kbd>&lt;</kbd> <kbd>&gt;</kbd></td><td>of what is found the next one, the one before, the first and the last</td></tr>
 <tr><td><kbd>Esc</kbd></td><td>end the search, and show the whole: the longest waits, deadlocks, ports, processes</td></tr>
 </table>

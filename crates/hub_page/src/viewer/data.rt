@@ -3,8 +3,8 @@
 pub(super) const FIRST: &[u8] =
     b"// Reads the data of the page, as README.md defines them. Steps are counted from 0 here, and from 1 in what is shown. One that is not told is null.
 const BLOCK = 64, MOST_READ = 300, MOST_OWN = 1000, NEVER = 0xffffffff, STILL_WAITS = { by: Infinity, letter: \"\", number: 0 };
-const WORDS = { m: \"make\", s: \"send\", r: \"recv\", \"?\": \"select\", c: \"close\", x: \"cancel\", e: \"exit\" };
-const ENDS = { s: \"sent\", g: \"got\", d: \"drained\", c: \"closed\", D: \"default\", k: \"done\", S: \"stalled\", x: \"cancelled\", m: \"made\", f: \"fault\" };
+const WORDS = { m: \"make\", s: \"send\", r: \"recv\", \"?\": \"select\", c: \"close\", x: \"cancel\", e: \"exit\" }, ENDS = { s: \"sent\", g: \"got\", d: \"drained\",
+    c: \"closed\", D: \"default\", k: \"done\", S: \"stalled\", x: \"cancelled\", m: \"made\", f: \"fault\", t: \"timed out\", w: \"woken\" };  // by the clock, or its own
 const TABLES = { w: \"waited\", a: \"asked\", t: \"troubles\", o: \"open\", s: \"sent\", g: \"got\", m: \"most\" };  // by letters of sketches
 const numbers = (first, end) => Array.from({ length: Math.max(0, end - first) }, (_, at) => first + at);
 class Step {
@@ -61,18 +61,19 @@ function readBlock(journal, at) {  // steps, ends by them in their order, levels
 }
 class Journal {
     constructor(text) {
-        const [procs, from, end] = /procs (\\d+)\\nsteps (\\d+) (\\d+)/.exec(text).slice(1).map(Number), next = (at) => text.indexOf(\"\\n\", at) + 1;
-        const lanes = procs + 1, bounds = [];
+        const [procs, from, to, clock] = /procs (\\d+)\\nsteps (\\d+) (\\d+)(?: clock (\\d+))?/.exec(text).slice(1).map(Number);
+        const lanes = procs + 1, bounds = [], next = (at) => text.indexOf(\"\\n\", at) + 1;
         for (let at = next(next(next(0))), sketch; (sketch = text.indexOf(\"~\", at)) > 0; at = next(sketch)) bounds.push([at, sketch - 1]);
         const steps = bounds.length && (bounds.length - 1) * BLOCK + text.slice(...bounds.at(-1)).split(\"\\n\").length;
-        Object.assign(this, { text, procs, lanes, first: from - 1, end, bounds, steps, blocks: bounds.length, read: new Map() });
+        const first = from - 1 - (from - 1) % BLOCK, end = Math.min(steps, Math.ceil(to / BLOCK) * BLOCK);  // whole blocks are told
+        Object.assign(this, { text, procs, clock, lanes, from, to, first, end, bounds, steps, blocks: bounds.length, read: new Map() });
         const makes = this.placesOf(\";0m\"), last = this.blocks * lanes, gone = this.placesOf(\"e;0k\");
         this.readSketches(makes.length + 1);
         const rooms = makes.map((place, at) => (this.mostOf(at + 1, 0, steps) ? Number(this.step(place).more) : 0));  // 0 if it never held a value
         const asks = [...this.asked.subarray(last)].filter((count, lane) => lane < procs || count > 0);  // behind them processes that there are not
         const exits = numbers(0, lanes).map((pid) => gone.find((place) => this.step(place).pid === pid) ?? null);
         const waits = asks.map((_, lane) => this.waited[last + lane] - (this.open[last + lane] !== NEVER));
-        Object.assign(this, { ports: makes.length, stalls: this.placesOf(\"S\"), rooms, asks, waits, exits });
+        Object.assign(this, { ports: makes.length, stalls: this.placesOf(\"S\").filter((at) => this.stallAt(at).calls[0] >= 0), rooms, asks, waits, exits });
     }
     placesOf(letters) {  // the steps in whose lines these letters stand
         const linesOf = (text) => (text.includes(letters) ? text.split(\"\\n\") : []), placeOf = (line, at) => (line.includes(letters) ? at : []);
@@ -98,20 +99,21 @@ class Journal {
     endOfBlock(at) { return Math.min(this.steps, (at + 1) * BLOCK); }
     block(at) {
         if (this.read.size > MOST_READ) this.read.clear();
-        return this.read.get(at) ?? this.read.set(at, readBlock(this, at)).get(at);
-    }
-    step(place) { return place >= 0 && place < this.steps ? this.block(this.blockAt(place)).steps[place % BLOCK] : undefined; }
-    stepsOf(first, end) { return numbers(first, end).map((place) => this.step(place)); }
 ";
 
 pub(super) const SECOND: &[u8] =
-    b"    endOf({ place, lane, cases }) {  // a call whose end alone is not told sent what a step of the window received
+    b"        return this.read.get(at) ?? this.read.set(at, readBlock(this, at)).get(at);
+    }
+    step(place) { return place >= 0 && place < this.steps ? this.block(this.blockAt(place)).steps[place % BLOCK] : undefined; }
+    stepsOf(first, end) { return numbers(first, end).map((place) => this.step(place)); }
+    endOf({ place, lane, pid }) {
         let at = this.blockAt(place);
         while (at < this.blocks && this.open[(at + 1) * this.lanes + lane] === place) at++;
-        return at === this.blocks ? STILL_WAITS : this.block(at).ends.get(place) ?? { by: NaN, letter: \"s\", number: cases[1] ? -1 : 0, block: at };
+        const end = at === this.blocks ? STILL_WAITS : this.block(at).ends.get(place), ofClock = pid === this.clock && { x: \"w\", S: \"w\" }[end.letter];
+        return { ...end, letter: ofClock || (end.letter === \"x\" && this.step(end.by)?.pid === this.clock ? \"t\" : end.letter) };
     }
     receiverOf({ place, end, shown: { port } }) {  // it is told where no more values were received before than had been sent
-        const { sent, got, width } = this, begin = end.block ?? this.blockAt(end.by), most = sent[(begin + 1) * width + port];
+        const { sent, got, width } = this, begin = this.blockAt(end.by), most = sent[(begin + 1) * width + port];
         const receiverIn = (at) => [...this.block(at).ends].find(([, { letter, sender }]) => letter === \"g\" && sender === place);
         for (let at = begin, row = at * width + port, found; at < this.blocks && got[row] < most; at++, row += width)
             if (got[row + width] > got[row] && (found = receiverIn(at))) return this.step(found[0]);
@@ -122,16 +124,16 @@ pub(super) const SECOND: &[u8] =
         return [...waiting, ...numbers(at * BLOCK, end)].map((place) => this.step(place)).filter((step) => step?.end.by >= first);
     }
     endsOf(first, end) { return this.goingOn(first, end).filter((step) => step.end.by < end); }
-    stallAt(place) { return this.block(this.blockAt(place)).stalls[place]; }
+    stallAt(place, stall = this.block(this.blockAt(place)).stalls[place]) {  // the clock waits for nobody, so its call is left out
+        return stall && { ...stall, all: stall.calls, calls: stall.calls.filter((call) => this.step(call)?.pid !== this.clock) };
+    }
     stallsOf(first, end) { return this.stalls.filter((place) => place >= first && place < end).map((place) => this.stallAt(place)); }
+    nameOf(lane) { return lane === this.clock ? \"clock\" : lane < this.procs ? `P${lane}` : \"unknown\"; }
     isIn(place) { return place >= this.first && place < this.end; }
     get told() { return this.end - this.first < this.steps ? \", as far as it is told\" : \"\"; }  // what is said of all steps
-    levelBefore(place, port) {  // what a port holds before a step of the window, or when it ends; NaN if that is not told
-        const at = Math.min(this.blockAt(place), this.blocks - 1), had = (at) => this.sent[at * this.width + port] - this.got[at * this.width + port];
-        const own = this.block(at).levels.filter((one) => one.port === port && this.isIn(one.from)), known = own.findLast(({ from }) => from < place);
-        if (known || at * BLOCK >= this.first) return known?.count ?? had(at);
-        const moves = (letter) => [...this.block(at).ends.values()].filter((end) => end.by === own[0].from && end.letter === letter).length;
-        return own.length ? own[0].count - moves(\"s\") + moves(\"g\") : this.end < this.endOfBlock(at) ? NaN : had(at + 1);
+    levelBefore(place, port) {  // what a port holds before a step of the window, or when it ends
+        const at = Math.min(this.blockAt(place), this.blocks - 1), row = at * this.width + port;
+        return this.block(at).levels.findLast((one) => one.port === port && one.from < place)?.count ?? this.sent[row] - this.got[row];
     }
     *blocksWith(table, width, column, at, direction, least = 0) {  // in which a number grows, from one on (1) or back (-1)
         for (; at >= least && at < this.blocks; at += direction)
@@ -143,10 +145,10 @@ pub(super) const SECOND: &[u8] =
             .flatMap((at) => [...this.block(at).ends].filter(isOwn).reverse()).map(([call]) => this.step(call)).filter((step) => step.port === port);
         return { count, held: [...sends.take(count)].reverse() };
     }
-    casesOf({ place, calls, last }) {  // a guess: a port of which one took its own value back last is a lock, and its value's sender has it
+    casesOf({ place, all, last }) {  // a guess: a port of which one took its own value back last is a lock, and its value's sender has it
         if (!this.isIn(place)) return last;
-        const steps = calls.map((call) => this.step(call)), all = steps.flatMap((step) => step.offers.map((offer) => ({ step, offer })));
-        return all.map(({ step, offer }, at) => {
+        const steps = all.map((call) => this.step(call)), cases = steps.flatMap((step) => step.offers.map((offer) => ({ step, offer })));
+        return cases.map(({ step, offer }, at) => {
             const { port, movers: [, taker], other } = last[at], { sender, pid } = this.step(taker) ?? {};
             const own = offer[0] === \"s\" ? this.heldAt(place, port) : { count: 0, held: [] }, isKnown = sender || !(taker >= 0) || offer[0] === \"r\";
             const isOwner = (send) => sender && sender.pid === pid && steps.some((one) => one.pid === send.pid && !one.offers.includes(offer));

@@ -21,7 +21,7 @@ class Page {
         document.title = byId(\"journal\").textContent = location.pathname.split(\"/\").pop().replace(/\\.html$/, \"\").replace(/%../g, \"_\");
         new ResizeObserver(() => this.layOut()).observe(byId(\"scroll\"));
         this.layOut();
-        this.readLink({ from: journal.first + 1, to: journal.end });
+        this.readLink(journal);
     }
     layOut() {
         Object.assign(this.view, { width: byId(\"scroll\").clientWidth, height: byId(\"scroll\").clientHeight - 4 });

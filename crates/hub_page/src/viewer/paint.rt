@@ -31,10 +31,9 @@ class Painter {
     names() {
         const { view, journal } = this, name = (text, y, dim, more) => shape(\"text\", { x: LEFT - 8, y, class: `name ${dim ? \"dim\" : \"\"}`, ...more }, text);
         const line = (y, end, more = \"\") => shape(\"path\", { d: `M${LEFT},${y}H${Math.max(LEFT, Math.min(view.width, end))}`, class: `line ${more}` });
-        const lanes = [...view.place].flatMap(([pid, { y, height }]) => {
-            const exit = journal.exits[pid] ?? Infinity, label = pid < journal.procs ? `P${pid}` : \"unknown\";
-            return [line(y, pid < journal.procs ? view.x(exit) : 0), name(height > FOLDED ? label : \"\", y, exit < view.first)];
-        });
+        const exit = (pid) => journal.exits[pid] ?? Infinity, label = (pid, height) => (height > FOLDED ? journal.nameOf(pid) : \"\");
+        const lanes = [...view.place].flatMap(([pid, { y, height }]) =>
+            [line(y, pid < journal.procs ? view.x(exit(pid)) : 0), name(label(pid, height), y, exit(pid) < view.first)]);
         return lanes.concat(view.strips().map((port, row) => [port, view.floor(row)]).flatMap(([port, floor]) =>
             [name(`port ${port}`, floor - 8, false, { \"data-strip\": port }), line(floor, view.width), line(floor - FULL, view.width, \"full\")]));
     }
@@ -47,7 +46,7 @@ class Painter {
     signs(step) {  // the signs of a step that its shapes share
         const { place, port, end, shown: { side } } = step, { page } = this;
         return [hueOf(port), side, page.marks.has(place) && \"found\", place === page.chosen?.place && \"chosen\", step.isTrouble && \"trouble\",
-            { \"\": \"open\", d: \"drained\", x: \"cancelled\" }[end.letter], \"mc\".includes(step.letter) && \"thick\"].filter(Boolean).join(\" \");
+            { \"\": \"open\", d: \"drained\" }[end.letter], step.endsBy(\"xtw\") && \"cancelled\", \"mc\".includes(step.letter) && \"thick\"].filter(Boolean).join(\" \");
     }
     fields({ place, calls }) {
         const { view } = this, width = Math.max(3, view.dots), places = calls.map((call) => view.place.get(this.journal.step(call)?.lane));
@@ -56,8 +55,8 @@ class Painter {
     }
     level({ row, port, from, until, count }) {
         const { view } = this, x = Math.max(LEFT, view.x(from)), width = Math.max(1, Math.min(view.width, view.x(until)) - x);
-        const room = this.journal.rooms[port - 1], height = (count || room) / room * FULL, title = `port ${port} holds ${count || \"?\"} of ${room}`;
-        return { class: `level ${count ? hueOf(port) : \"untold\"}`, x, y: view.floor(row) - height, width, height, title };
+        const room = this.journal.rooms[port - 1], height = count / room * FULL, title = `port ${port} holds ${count} of ${room}`;
+        return { class: `level ${hueOf(port)}`, x, y: view.floor(row) - height, width, height, title };
     }
     arrow(to) {
         const { view, page } = this, from = to.sender, [start, end] = [from, to].map((step) => view.place.get(step.lane));
@@ -101,7 +100,7 @@ class Painter {
     paintShapes() {
         const { view } = this, shapes = [...view.levels().map((level) => this.level(level)), ...view.bars().map((call) => this.bar(call)),
             ...view.boxes().map((step) => this.box(step)), ...this.journal.stallsOf(...view.range()).flatMap((stall) => this.fields(stall))];
-        const colourOf = (signs) => (/trouble|field/.test(signs) ? \"trouble\" : /h\\d|edge|untold/.exec(signs)[0]);
+        const colourOf = (signs) => (/trouble|field/.test(signs) ? \"trouble\" : /h\\d|edge/.exec(signs)[0]);
         for (const { class: signs, x, y, width, height } of shapes) this.fill(colourOf(signs), x, y, width, height);
     }
     paintCounts() {  // in columns of dots: waits as a band as high as their share, steps as a thinner one on it, troubles
@@ -135,12 +134,13 @@ pub(super) const SECOND: &[u8] =
         for (let step = Math.ceil(Math.max(1, view.first + 0.5) / every) * every; step <= end; step += every) this.pen.fillText(step, view.x(step - 1), 14);
     }
     paintWhole(canvas, found) {  // of few steps each call is counted, since a block is wide there
-        const { journal } = this, { procs, stalls } = journal, count = Math.max(1, journal.steps), width = canvas.parentElement.clientWidth;
+        const { journal } = this, { stalls } = journal, count = Math.max(1, journal.steps), width = canvas.parentElement.clientWidth;
         const x = (step) => Math.floor(step / scale), scale = count / width, isSummed = count > MOST_SHAPES || journal.told;
+        const others = numbers(0, journal.procs).filter((lane) => lane !== journal.clock);
         this.begin(canvas, width, 54);
-        const shares = isSummed ? numbers(0, procs).map((lane) => (first, end) => journal.share(\"waited\", lane, first, end))
-            : journal.goingOn(0, journal.steps).filter((call) => call.waits).map((call) => (first, end) => call.share(first, end));
-        const waiting = (first, end) => shares.reduce((sum, share) => sum + share(first, end), 0) / procs;
+        const shares = isSummed ? others.map((lane) => (first, end) => journal.share(\"waited\", lane, first, end))
+            : journal.goingOn(0, journal.steps).filter(({ waits, pid }) => waits && pid !== journal.clock).map((one) => (first, end) => one.share(first, end));
+        const waiting = (first, end) => shares.reduce((sum, share) => sum + share(first, end), 0) / others.length;
         this.fillColumns(\"h1\", 0, width, 48, (column) => 32 * waiting(column * scale, (column + COLUMN) * scale), 1);
         for (const place of stalls) this.fill(\"trouble\", x(place), 16, Math.max(2, x(1)), 32);
         for (const column of new Set(found.map(x))) this.fill(\"on\", column, 48, 2, 6);

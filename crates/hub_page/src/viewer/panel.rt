@@ -5,7 +5,7 @@ pub(super) const TEXT: &[u8] =
 const items = (texts) => texts.map((text) => html`<li>${text}</li>`);
 const rowsOf = (rows) => rows.map((row) => html`<tr>${row.map((cell) => html`<td>${cell}</td>`)}</tr>`);
 const stepLink = (place) => `step=${place + 1}`, wayLink = ({ place }) => `${stepLink(place)}&find=way ${place + 1}`;
-const link = (place, words = `step ${place + 1}`) => html`<a href=\"#${stepLink(place)}\">${words}</a>`;
+const link = (place, words = `step ${place + 1}`, to = stepLink(place)) => html`<a href=\"#${to}\">${words}</a>`;
 const when = (step) => html`${who(step)}${step.waits && html`, waiting until ${link(step.end.by, step.end.by + 1)}`}`;
 const lay = ({ sender, receiver }) => (receiver.end.by > sender.end.by ? `; ${counted(receiver.end.by - sender.end.by, \"step\")} in the port` : \"\");
 const ender = (step) => (step.endsBy(\"S\") ? html`the deadlock at ${link(step.end.by)}` : whoAt(step.end.by, step.journal.step(step.end.by)));
@@ -13,20 +13,18 @@ const who = (step) => html`P${step.pid}, ${link(step.place)}`, isIn = ({ journal
 const whoAt = (place, step) => (step ? who(step) : place >= 0 ? `step ${place + 1} (not told)` : place < 0 ? \"nobody\" : \"not told\");
 const kept = (step, where) => (step.endsBy(\"g\") ? `from ${whoAt(step.end.sender)}` : isIn(step) ? `stays ${where}` : \"who got it is not told\");
 const called = (step, number, answer = step.answer) => html`${number} <code>${step.line}</code> <span class=\"dim\">${answer}</span>`;
-const sendText = (_, port, value) => `send ${readable(value)} on port ${port}`;
-const caseText = (text) => text.replace(/^s(\\d+):(.*)/, sendText).replace(/^r/, \"receive from port \");
+const caseText = (text) => text.replace(/^s(\\d+):(.*)/, (_, port, value) => `send ${readable(value)} on port ${port}`).replace(/^r/, \"receive from port \");
 function tellStep(step, page) {
     const { place, end, cases, partner, value } = step, { journal } = page, fired = step.endsBy(\"sgdc\") ? end.number : -1;
     const ended = journal.endsOf(place, place + 1).filter((call) => call.place < place && !call.endsBy(\"S\"));
     const moved = partner ? html`${step.endsBy(\"g\") ? \"from\" : \"to\"} ${when(partner)}${lay(step)}` : kept(step, `in port ${step.port}`);
     const at = (way) => journal.stepsOfProcess(step, way).next().value, told = (own) => (own ? link(own.place) : own === null ? \"not told\" : \"none\");
-    const follow = html`<br><a href=\"#${wayLink(step)}\">Follow it</a>`;
     const short = (one) => called(one, link(one.place, one.place + 1), one.end.by >= place ? \"waits\" : one.answer);  // told by then
     put({
         name: `Step ${place + 1} of P${step.pid}`, line: step.line, number: `line ${place + 3} of the journal`,
         answer: html`<b class=\"${step.isTrouble ? \"trouble\" : \"\"}\">${step.answer}</b>`,
         waited: step.waits && html`${counted(step.waited, \"step\")}${end.letter && html`; ended by ${ender(step)}`}`,
-        value: step.endsBy(\"sg\") && html`<b>${readable(value) ?? \"not told\"}</b> ${moved}${value !== null && follow}`,
+        value: step.endsBy(\"sg\") && html`<b>${readable(value) ?? \"not told\"}</b> ${moved}${value && html`<br>${link(place, \"Follow it\", wayLink(step))}`}`,
         cases: items((cases.length > 1 ? cases : []).map((text, at) => html`<span class=\"${at === fired ? \"fired\" : \"\"}\">${caseText(text)}</span>`)),
         ended: items(ended.map((call) => html`the wait of ${who(call)}`)), process: html`P${step.pid}: ${told(at(-1))} before, ${told(at(1))} after`,
         before: items(journal.stepsOf(Math.max(0, place - 6), place).filter(Boolean).map(short)),
@@ -66,7 +64,7 @@ function tellWhole(journal, story) {  // of deadlocks the first and the last fou
     const until = (step) => (step.end.letter ? ender(step) : \"the end\"), ties = longest.filter((one) => !journal.told && one[3] === least).length;
     const wait = (step, place, pid) => (step ? [called(step, who(step)), until(step)] : [`${pid}, ${whoAt(place)}`]);
     const shownAs = (lane) => html`<select data-process=\"${lane}\" aria-label=\"${lane} shown as\">${{ html: byId(\"forms\").innerHTML }}</select>`;
-    const exit = (lane) => exits[lane] !== null && link(exits[lane]), name = (lane) => (lane < procs ? `P${lane}` : \"unknown\");
+    const exit = (lane) => exits[lane] !== null && link(exits[lane]), name = (lane) => journal.nameOf(lane);
     const box = (port) => html`<label><input type=\"checkbox\" data-port=\"${port}\" ${rooms[port - 1] > 0 && \"checked\"}> port ${port}</label> `;
     const boxes = (isHeld) => numbers(1, rooms.length + 1).filter((port) => isHeld === rooms[port - 1] > 0).map(box);
     put({

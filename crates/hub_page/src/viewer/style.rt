@@ -72,7 +72,6 @@ button:hover { background: var(--soft); }
 .line.full { stroke-dasharray: 2 4; }
 .field { fill: var(--trouble); opacity: 0.16; }
 .level { fill: var(--hue); }
-.level.untold { fill: var(--untold); }
 .box { fill: var(--grey); stroke: var(--hue); stroke-width: 1.5; }
 .bar, .knob { fill: var(--paper); stroke: var(--hue); stroke-width: 1.5; }
 .box.r { fill: var(--paper); }

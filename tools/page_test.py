@@ -700,7 +700,7 @@ def check_part_panel(browser, journal):
         said = browser.value("document.getElementById('panel').innerText")
         assert title(browser) == f"Step {place + 1} of P{pid_at(journal, place)}" and not JUNK.search(said), (place + 1, JUNK.search(said), said)
         check_value(browser, journal, journal.asked()[place])
-        before = [f"{one.place + 1} {one.line}" for one in journal.asked()[max(0, place - 6) : place] if one.place in journal.told]
+        before = [f"{one.place + 1} {one.line if one.place in journal.told else 'not told'}" for one in journal.asked()[max(0, place - 6) : place]]
         said = texts(browser, "#before li")
         assert len(said) == len(before) and all(map(str.startswith, said, before)), f"before step {place + 1}: {said} and not {before}"
     for place in {by for by, _, _ in journal.stalls} & set(journal.window):
@@ -1436,6 +1436,9 @@ def check_links(browser, count, path):
     browser.value("new Promise((done) => setTimeout(done, 300))")
     parts = urllib.parse.parse_qs(browser.value("location.hash")[1:])
     count.test("the address follows", parts.get("step") == [str(first + 3)] and parts.get("find") == ["P0"], parts)
+    browser.open(path, f"#step={first + 2}&find=P0&from={first - 90}&to={first + 10}")
+    view = browser.value("[page.view.first, page.view.steps]")
+    count.test("an address keeps what is in view", title(browser) == f"Step {first + 2} of P0" and view == [first - 91, 101], view)
     browser.value("location.hash = '#step=10&from=5&to=25'")
     browser.settle()
     count.test("an address that is changed is followed", title(browser).startswith("Step 10 ") and browser.value("[page.view.first, page.view.steps]") == [4, 21], browser.value("[page.view.first, page.view.steps]"))

@@ -24,7 +24,7 @@ function tellStep(step, page) {
         value: step.endsBy("sg") && html`<b>${readable(value) ?? "not told"}</b> ${moved}${value && html`<br>${link(place, "Follow it", wayLink(step))}`}`,
         cases: items((cases.length > 1 ? cases : []).map((text, at) => html`<span class="${at === fired ? "fired" : ""}">${caseText(text)}</span>`)),
         ended: items(ended.map((call) => html`the wait of ${who(call)}`)), process: html`P${step.pid}: ${told(at(-1))} before, ${told(at(1))} after`,
-        before: items(journal.stepsOf(Math.max(0, place - 6), place).filter(Boolean).map(short)),
+        before: items(numbers(Math.max(0, place - 6), place).map((at) => (journal.step(at) ? short(journal.step(at)) : `${at + 1} not told`))),
         ...movesText(place, page), ...stallText(journal.stallAt(place) ?? { calls: [], last: [] }, journal),
     });
 }
@@ -54,8 +54,8 @@ function stallText(stall, journal) {  // a cause, what full ports hold, who wait
 }
 function tellWhole(journal, story) {  // of deadlocks the first and the last four
     const { steps, first, end, procs, stalls, rooms, asks, waits, exits } = journal, left = stalls.length - 5;
-    const names = (steps) => [...steps.filter(Boolean).map(({ pid }) => `P${pid}`), ...(steps.includes(null) ? ["some not told"] : [])].join(", ");
-    const stalled = (place) => html`${link(place)} stalls ${names(journal.stallAt(place).calls.map((call) => journal.step(call)))}`;
+    const names = (steps) => [...steps.filter(Boolean).map(({ pid }) => "P" + pid), `${steps.filter((one) => !one).length} not told`].join(", ");
+    const stalled = (place) => html`${link(place)} stalls ${names(journal.stallAt(place).calls.map((one) => journal.step(one))).replace(", 0 not told", "")}`;
     const gap = left > 0 ? [html`and <a href="#find=deadlock">${left} more</a>, then`] : [];
     const longest = [...story.matchAll(/^ *(\d+) +(P\d+) .* (\d+), /gm)], least = longest.at(-1)?.[3];
     const until = (step) => (step.end.letter ? ender(step) : "the end"), ties = longest.filter((one) => !journal.told && one[3] === least).length;

@@ -92,10 +92,10 @@ class Page {
         history.replaceState(null, \"\", `#${new URLSearchParams(Object.assign(parts, find && { find }, chosen && { step: chosen.place + 1 }))}`);
     }
     readLink(opening) {
-        const { step, find, from, to } = { ...opening, ...Object.fromEntries(new URLSearchParams(location.hash.slice(1))) };
-        if (Number(from) <= Number(to)) this.view.show(from - 1, to - from + 1);
-        this.choose(step ? step - 1 : null);
-        if (find && find !== this.words) this.find(byId(\"find\").value = find).then(() => step && this.choose(step - 1));
+        const link = Object.fromEntries(new URLSearchParams(location.hash.slice(1))), { step, find, from, to } = { ...(link.step ? {} : opening), ...link };
+        const go = () => [this.choose(step ? step - 1 : null), Number(from) <= Number(to) && this.view.show(from - 1, to - from + 1)];
+        go();
+        if (find && find !== this.words) this.find(byId(\"find\").value = find).then(() => step && go());
     }
     drag({ movementX, movementY }) {
         this.dragged += Math.abs(movementX) + Math.abs(movementY);

@@ -55,7 +55,9 @@ button:hover { background: var(--soft); }
 #early, #late { overflow: hidden; text-overflow: ellipsis; white-space: nowrap; background: var(--untold); }
 #early { left: 64px; width: calc(min(100%, var(--first)) - 64px); }
 #late { left: max(64px, var(--end)); width: calc(min(100%, var(--steps)) - max(64px, var(--end))); }
-#scroll:has(.counted) > :is(#early, #late) { display: none; }
+#scroll:has(.counted) > :is(#early, #late) { background: none; border: dashed var(--edge); border-width: 0; }
+#scroll:has(.counted) > #early { border-right-width: 2px; }
+#scroll:has(.counted) > #late { border-left-width: 2px; }
 [data-link], [data-strip] { cursor: pointer; }
 #lanes.far { cursor: zoom-in; }
 #lanes.far .line { opacity: 0.4; }
@@ -100,7 +102,7 @@ button:hover { background: var(--soft); }
 #panel td { padding: 1px 6px 1px 0; vertical-align: top; font-variant-numeric: tabular-nums; }
 #panel .lines { overflow-wrap: normal; }
 #panel code { overflow-wrap: anywhere; }
-#none { color: var(--words); }
+#none { color: var(--words); position: sticky; top: 0; background: var(--soft); }
 /* What tells nothing is not shown. */
 #none:empty, #told:empty, #ties:empty, ul:empty, h3:has(+ ul:empty), tr:has(th + td:empty), tr:has(td > ul:empty) { display: none; }
 #stall > h3 { display: block; }

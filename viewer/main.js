@@ -77,15 +77,10 @@ class Page {
         const nothing = (words[0] === "=" ? `No value ${words.slice(1)} moved` : `Nothing is found by ${words}`) + this.journal.told;
         byId("none").textContent = words && !found.length ? `${nothing}. ${KNOWN}${from ? " What was chosen stays:" : ""}` : "";
     }
-    async countTies(words, told) {
-        await this.find(byId("find").value = words);
-        if (this.words === words) byId("ties").textContent = `${this.found.length - told} more waited as long as the last`;
-        this.choose(null);
-    }
     endFind() { this.find(byId("find").value = ""); }
     get isFollowing() { return /^(=|way \d+$)/i.test(this.words) && this.marks.has(this.chosen?.place); }  // the chosen step's value
-    writeLink() {  // links: #step=60&find=P3&from=1&to=100
-        const { view: { first, steps }, words: find, chosen } = this, parts = { from: Math.round(first) + 1, to: Math.round(first + steps) };
+    writeLink({ view: { first, steps }, words: find, chosen } = this) {  // links: #step=60&find=P3&from=1&to=100
+        const parts = { from: Math.round(first) + 1, to: Math.round(first + steps) };
         history.replaceState(null, "", `#${new URLSearchParams(Object.assign(parts, find && { find }, chosen && { step: chosen.place + 1 }))}`);
     }
     readLink(opening) {

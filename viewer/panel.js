@@ -58,8 +58,7 @@ function tellWhole(journal, story) {  // of deadlocks the first and the last fou
     const stalled = (place) => html`${link(place)} stalls ${names(journal.stallAt(place).calls.map((one) => journal.step(one))).replace(", 0 not told", "")}`;
     const gap = left > 0 ? [html`and <a href="#find=deadlock">${left} more</a>, then`] : [];
     const longest = [...story.matchAll(/^ *(\d+) +(P\d+) .* (\d+), /gm)], least = longest.at(-1)?.[3];
-    const until = (step) => (step.end.letter ? ender(step) : "the end"), ties = longest.filter((one) => !journal.told && one[3] === least).length;
-    const wait = (step, place, pid) => (step ? [called(step, who(step)), until(step)] : [`${pid}, ${whoAt(place)}`]);
+    const wait = (step, place, pid) => (step ? [called(step, who(step)), step.end.letter ? ender(step) : "the end"] : [`${pid}, ${whoAt(place)}`]);
     const shownAs = (lane) => html`<select data-process="${lane}" aria-label="${lane} shown as">${{ html: byId("forms").innerHTML }}</select>`;
     const exit = (lane) => exits[lane] !== null && link(exits[lane]), name = (lane) => journal.nameOf(lane);
     const box = (port) => html`<label><input type="checkbox" data-port="${port}" ${rooms[port - 1] > 0 && "checked"}> port ${port}</label> `;
@@ -70,7 +69,7 @@ function tellWhole(journal, story) {  // of deadlocks the first and the last fou
         early: `not told: steps 1 to ${first}, but for boxes`, late: `not told: steps ${end + 1} to ${steps}, but for boxes`,
         stalls: items([...stalls.slice(0, 1).map(stalled), ...gap, ...stalls.slice(1).slice(-4).map(stalled)]),
         longest: rowsOf(longest.map(([, step, pid, waited]) => [waited, ...wait(journal.step(step - 1), step - 1, pid)])),
-        ties: longest[4] && ties > 0 && html`<button onclick="page.countTies('waited ${least}', ${ties})">How many more waited ${least}?</button>`,
+        ties: longest[4] && html`<a href="#find=waited ${least}">Find all that waited ${least}</a>`,
         held: boxes(true), empty: boxes(false), processes: rowsOf(waits.map((waited, lane) => [name(lane), asks[lane], waited, exit(lane), shownAs(lane)])),
         end: { html: story.replace(/^ *\d+ +P.*\n|, the longest first.*|^ {10}/gm, "").replace(/(?<=step )\d+/g, (step) => link(step - 1, step).html) },
     });

@@ -28,8 +28,7 @@ class View {
         }
         this.bottom = Math.max(this.height, this.stripTop + strips * STRIP + 8);
     }
-    show(first, steps) {
-        const count = Math.max(1, this.journal.steps);
+    show(first, steps, count = Math.max(1, this.journal.steps)) {
         this.steps = Math.min(count, Math.max((this.width - LEFT) / NEAREST, steps));
         this.first = Math.min(count - this.steps, Math.max(0, first));
         this.changed();
@@ -40,9 +39,8 @@ class View {
         this.show(0, this.steps * factor);
         this.show(step - share * this.steps, this.steps);
     }
-    reveal(step) {  // brings a step into view, so near that boxes have letters
-        const steps = this.steps > MOST_NEAR ? this.width / CLOSE : this.steps, isOff = Math.abs(step - this.first - steps / 2) > steps * 0.42;
-        if (isOff || this.steps > MOST_NEAR) this.show(step + 0.5 - steps / 2, steps);
+    reveal(step, steps = this.steps > MOST_NEAR ? this.width / CLOSE : this.steps) {  // brings it into view, so near that boxes have letters
+        if (this.steps > MOST_NEAR || Math.abs(step - this.first - steps / 2) > steps * 0.42) this.show(step + 0.5 - steps / 2, steps);
     }
     boxes() { return this.journal.stepsOf(...this.range()).filter((step) => step && this.isShown(step)); }
     bars() { return this.journal.goingOn(...this.range()).filter((call) => call.waits && this.isShown(call)); }

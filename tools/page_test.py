@@ -767,9 +767,32 @@ def check_part(browser, count, work, text, name, window, several):
     count.test(f"{name} are in view", close(opened[:2], [float(min(first - 1, len(journal.lines) - steps)), float(steps)], 0.5), opened)
     for view in [tuple(opened[:2]), *several]:
         count.run(f"{name}: view {view}", lambda: test(*drawn_at(browser, journal, *view)))
+    count.run(f"{name}: the way back", lambda: check_way_back(browser, journal, opened[:2]))
     count.run(f"{name}: what is told", lambda: check_told(text, journal))
     count.run(f"{name}: search", lambda: check_search(browser, journal))
     count.run(f"{name}: panel", lambda: check_part_panel(browser, journal))
+
+
+def check_way_back(browser, journal, opened):
+    """A link in the header leads to the steps that are told, if not all are."""
+    browser.value("page.view.show(0, 40); new Promise((done) => setTimeout(done, 300))")  # until the address has followed
+    link, (first, end), count = texts(browser, "#part a"), (journal.window.start, journal.window.stop), len(journal.lines)
+    assert link == ([f"Steps {first + 1} to {end}"] if end - first < count else []), link
+    said = browser.value("document.getElementById('told').parentElement.checkVisibility()")
+    assert said == bool(link), "what is said of values that lie in a port all along"
+    if link:
+        browser.value("document.querySelector('#part a').click()")
+        browser.settle()
+        view = browser.value("[page.view.first, page.view.steps]")
+        assert close(view, opened, 0.5) and title(browser) == "The whole", view
+    begin = math.ceil(round(browser.value("page.view.first"), 6))
+    several = found(browser, "P0")[0]
+    wanted = next((place for place in several if place >= begin), several[0] if several else None)
+    assert several == [] or title(browser) == f"Step {wanted + 1} of P0", (title(browser), wanted, begin)
+    browser.value("page.endFind(); page.choose(null)")
+    links = {int(place) for place in browser.value("[...document.querySelectorAll('#end a')].map((one) => one.textContent)")}
+    named = {int(step) for step in re.findall(r"step (\d+)", browser.value("document.getElementById('end').textContent"))}
+    assert links == {step for step in named if step - 1 in journal.told}, (links, named)
 
 
 def check_fields(browser, drawn, journal):
@@ -847,6 +870,14 @@ def check_part_panel(browser, journal):
         shown = title(browser)
         browser.value(f"page.choose({place})")
         assert texts(browser, "#none") == [f"Step {place + 1} is not told."] and title(browser) == shown, (place, texts(browser, "#none"))
+    for place in inside[-3:]:
+        following = own_steps(journal, place)[1]
+        browser.value(f"page.choose({place}); page.keys.J()")
+        said, shown = texts(browser, "#none"), title(browser)
+        near = [at for at in range(place + 1, following or place) if at // BLOCK in (place // BLOCK, following // BLOCK)]  # its own, perhaps
+        known = following is not None and journal.told.issuperset([*near, following])
+        assert known or (said == ["No such step is told."] and shown.startswith(f"Step {place + 1} ")), (place, said, shown)
+        assert not known or (said == [""] and shown.startswith(f"Step {following + 1} ")), (place, said, shown)
     browser.value("page.choose(null)")
     assert texts(browser, "#none") == [""] and title(browser) == "The whole", texts(browser, "#none")
 
@@ -1150,6 +1181,7 @@ def check_search(browser, journal):
         "cancelled": lambda one: words_of(one) == "cancelled",
         "step 60": lambda one: one.place == 59,
         "waited": lambda one: one.ended is None or one.ended.by > one.place,
+        "waited >20": lambda one: (one.ended.by if one.ended else len(asked) - 1) - one.place > 20,
         "to the end": lambda one: one.ended is None,
         "P0 port 1": lambda one: int(one.line.split()[0]) == 0 and 1 in port_of(one),
         "select": lambda one: one.line.split()[1] == "select",

@@ -58,11 +58,11 @@ class View {
     }
 }
 function testOf(word) {  // of what is typed in Find: whether a step is meant
-    const [, kind, digits, name = kind?.trim()] = /^(?:(P|step |before |waited |port )(\d+)|(deadlock)s?)$/i.exec(word) ?? [];
+    const [, kind, digits, name = kind?.trim()] = /^(?:(P|step |before |waited >?|port )(\d+)|(deadlock)s?)$/i.exec(word) ?? [];
     const number = Number(digits), text = word.slice(1), end = Object.keys(ENDS).find((letter) => ENDS[letter] === word);
     if (word[0] === "=") return ({ value }) => value === text || value?.[0] === "#" && readable(value) === `\u201c${text}\u201d`;
     const numbered = { p: ({ pid }) => pid === number, step: ({ place }) => place === number - 1, before: ({ place }) => place < number - 1,
         port: ({ ports }) => ports.includes(number), deadlock: ({ journal, place }) => journal.stallAt(place)?.calls[0] >= 0,
-        waited: (step) => step.waits && step.waited === number };
+        waited: (step) => step.waits && step.waited === number, "waited >": (step) => step.waits && step.waited > number };
     return numbered[name?.toLowerCase()] ?? (end ? (step) => step.end.letter === end : (step) => step.title.includes(word));
 }

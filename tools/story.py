@@ -9,6 +9,7 @@ import os
 import pathlib
 import pty
 import random
+import resource
 import subprocess
 import sys
 import tempfile
@@ -25,6 +26,7 @@ RANDOM_JOURNALS = 200
 WINDOWED = 50
 MINUTE = 60
 MOST_ALLOCATIONS = 1000
+NO_MEMORY = b"chanhub: out of memory\n"
 MOST_BYTES = 67_108_864
 # the most memory for the story of a journal of so many bytes that has the most entries
 MOST_MEMORY = 1_000_000_000
@@ -86,6 +88,15 @@ class Program:
         with open("/dev/full", "wb") as full:
             done = subprocess.run([self.path, *words], input=journal, stdout=full, stderr=subprocess.PIPE, timeout=MINUTE)
         return done.returncode, done.stderr
+
+    def run_to_short(self, words, journal, most):
+        """The status, what was written to standard error, and to a file that has room for so many bytes."""
+        with tempfile.TemporaryFile() as text:
+            # A signal that is ignored here stays so: else the first write past the end would end the program.
+            how = {"preexec_fn": lambda: resource.setrlimit(resource.RLIMIT_FSIZE, (most, most)), "restore_signals": False}
+            done = subprocess.run([self.path, *words], input=journal, stdout=text, stderr=subprocess.PIPE, timeout=MINUTE, **how)
+            text.seek(0)
+            return done.returncode, done.stderr, text.read()
 
     def run_on_folder(self, words):
         """The same as of `run`, where standard input is a folder, of which nothing can be read."""
@@ -214,18 +225,32 @@ def devices(program, _):
     yield "a folder for a journal", program.run_on_folder(["story"]) == (1, b"", b"chanhub: read failed\n")
 
 
-def survives_refusals(program, words, journal, refuse):
-    """With each allocation refused in turn it does the same, or tells that memory is wanting and nothing else."""
-    told = program.run(words, journal)
+def each_refused(program, words, journal, refuse):
+    """What it does with its first allocation refused, then with its second, and so on, and last where nothing was refused."""
     for number in range(1, MOST_ALLOCATIONS):
         trace = refuse.with_name("refused")
         trace.unlink(missing_ok=True)
-        done = program.run(words, journal, LD_PRELOAD=str(refuse), REFUSE=str(number), REFUSED=str(trace))
+        yield program.run(words, journal, LD_PRELOAD=str(refuse), REFUSE=str(number), REFUSED=str(trace))
         if not trace.exists():
-            return number > 1 and done == told
-        if done not in (told, (1, b"", b"chanhub: out of memory\n")):
-            return False
-    return False
+            return
+
+
+def survives_refusals(program, words, journal, refuse):
+    """With each allocation refused in turn it does the same, or tells that memory is wanting and nothing else."""
+    told = program.run(words, journal)
+    *done, last = each_refused(program, words, journal, refuse)
+    return done != [] and last == told and all(it in (told, (1, b"", NO_MEMORY)) for it in done)
+
+
+def begins_under_refusals(program, words, journal, refuse):
+    """So does what is written as it goes, but that a beginning of it is written by then, the longer the later memory is refused: at first
+    none, and at last some of it."""
+    told = program.run(words, journal)
+    *done, last = each_refused(program, words, journal, refuse)
+    begun = [it for it in done if it != told]
+    lengths = [len(written) for _, written, _ in begun]
+    fit = (it == (1, told[1][:length], NO_MEMORY) for it, length in zip(begun, lengths))
+    return last == told and all(fit) and lengths == sorted(lengths) and 0 == lengths[0] < lengths[-1] < len(told[1])
 
 
 def build_refuse(work):

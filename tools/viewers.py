@@ -3,7 +3,7 @@
 examples, of random journals and of long ones, and compares them with a second reading of docs/FORMATS.md, "Diagrams and traces", by the
 events of model.py. Looks at each text by itself too: at the lines of a diagram by Mermaid's grammar, and at the events of a trace by
 the rules of their format. Runs the rows of tests/viewers.toml, which have data of pages too, and all with each allocation refused,
-which needs a C compiler. Pages are compared further by page_test.py. The last line counts: 'N passed, M failed'."""
+which needs a C compiler, and pages to files without room for them. Pages are compared further by page_test.py. The last line counts: 'N passed, M failed'."""
 import collections
 import json
 import re
@@ -14,9 +14,11 @@ sys.dont_write_bytecode = True
 import model
 import page
 import story_model
-from story import RANDOM_JOURNALS, WINDOWED, Program, build_refuse, count, journals, refused, survives_refusals, table
+from story import RANDOM_JOURNALS, WINDOWED, Program, begins_under_refusals, build_refuse, count, journals, refused, survives_refusals, table
 
 MOST_STEPS = 200
+# a page of a million steps takes so many bytes of memory more than the story of one of them at most; its text has thirty times as many
+MOST_OF_PAGE = 1_000_000
 TOO_LONG = refused("too long for a diagram, which shows 200 steps at most")
 
 Told = collections.namedtuple("Told", "asked by pid words")
@@ -289,13 +291,31 @@ def limits(program, _):
 
 def long_traces(program, _):
     """A journal of the most entries that are no exits is written within a minute."""
-    head = "chanhub journal 1\nprocs 1\n"
     values = (1000000 - 64) // 2
-    passing = head + "0 make 1\n" * 64 + "".join(f"0 send {value % 64 + 1} {value}\n0 recv {value % 64 + 1}\n" for value in range(values))
-    done = program.run(["trace"], passing.encode())
+    done = program.run(["trace"], passing(values))
     yield "the longest trace", done is not None and done[0] == 0 and done[2] == b"" and done[1].count(b"\n") == 3 + 1 + 1 + 1000000 + 4 * values
     events = json.loads(done[1])["traceEvents"]
     yield "its events", collections.Counter(event["ph"] for event in events) == {"M": 3, "X": 1000000, "s": values, "f": values, "C": 2 * values}
+
+
+def passing(values):
+    """A journal in which so many values pass through 64 ports, one by one."""
+    moves = (f"0 send {value % 64 + 1} {value}\n0 recv {value % 64 + 1}\n" for value in range(values))
+    return ("chanhub journal 1\nprocs 1\n" + "0 make 1\n" * 64 + "".join(moves)).encode()
+
+
+def pages_as_they_go(program, _):
+    """A page is written block after block: a write may fail in any of them, and the memory for the page's text is that for a block's."""
+    journal = passing(500)
+    whole = program.run(["page"], journal)[1]
+    data = whole.index(b"chanhub journal 1")
+    for most in (0, data // 2, data + 1, data + 5000, len(whole) - 1):
+        wanted = 1, b"chanhub: write failed\n", whole[:most]
+        yield f"room for {most} of {len(whole)} bytes", program.run_to_short(["page"], journal, most) == wanted
+    yield "room for all", program.run_to_short(["page"], journal, len(whole)) == (0, b"", whole)
+    longest = passing((1000000 - 64) // 2)
+    (status, written, memory), (_, _, least) = program.memory(["page"], longest), program.memory(["story", "1"], longest)
+    yield f"a page of {written} bytes within {memory} bytes of memory, and a line within {least}", status == 0 and memory <= least + MOST_OF_PAGE
 
 
 def faults(program, _):
@@ -308,12 +328,13 @@ def faults(program, _):
 def refused_allocations(program, work):
     refuse = build_refuse(work)
     for row in table("viewers")["row"]:
-        for command in ("mermaid", "trace", "page"):
+        for command in ("mermaid", "trace"):
             yield f"{row['name']}: {command}", survives_refusals(program, [command], row["journal"].encode(), refuse)
+        yield f"{row['name']}: page", begins_under_refusals(program, ["page"], row["journal"].encode(), refuse)
 
 
 def main():
-    parts = worked, diagrams, traces, limits, long_traces, faults, refused_allocations
+    parts = worked, diagrams, traces, limits, long_traces, pages_as_they_go, faults, refused_allocations
     return count(Program(sys.argv[1]), *parts)
 
 

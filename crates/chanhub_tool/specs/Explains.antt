@@ -40,6 +40,12 @@ IsIn form.Mermaid w given text = text ≡ mermaid_text w given.head.procs given.
 IsIn form.Trace w given text = text ≡ trace_text given.head.procs given.entries (told given.head given.entries)
 IsIn form.Page w given text = text ≡ page_text w given.head given.entries (told given.head given.entries)
 
+-- of these steps in that form this holds: that they were written whole, or that a beginning of them was
+pub record Shows (asked : Form) (w : Window) (given : JournalView) (Writes : List ℕ → Type 0) : Type 0 where
+  pub text : List ℕ
+  pub is : IsIn asked w given text
+  pub written : Writes text
+
 -- the first bytes are a journal's text, and the others what is asked of it
 pub record IsExplanation (asked : Asked) (bytes text : List ℕ) : Type 0 where
   pub head : Head

@@ -17,7 +17,7 @@ use clap::ArgMatches;
 use explore::{Exploring, explore_given, read_exploring};
 use hub_replay::Sink;
 pub(crate) use mermaid::diagram_of;
-pub(crate) use page::page_of;
+pub(crate) use page::write_page_of;
 pub(crate) use picture::picture_of;
 use serve::serve_streams;
 use std::alloc::{AllocError, Global};

@@ -33,6 +33,7 @@ pub fn explain<S: Source, W: Sink, X: Sink>(
         × HasRefused asked (S.remaining input.old) (S.remaining input.new) (output.new ≡ output.old)
         (Failed (S.failures input.old) (S.failures input.new))
         (Failed (W.failures output.old) (W.failures output.new))
+        (W.failures output.new ≡ W.failures output.old)
         (Explains asked (S.remaining input.old) (S.remaining input.new)
         (AppendsBeginning (W.contents output.old) (W.contents output.new))) fault
         × TellsOnce (X.contents errors.old) (X.contents errors.new)

@@ -56,7 +56,7 @@ fn output_option<'a>(alloc: Global) -> Arg<'a> {
         alloc,
         "output",
         "OUT",
-        "The file that is written, once all is known; without it, or as -, standard output",
+        "The file that is written, once the journal is read; without it, or as -, standard output",
     )
     .short('o')
     .long("output")

@@ -12,7 +12,6 @@ mod given;
 mod limits;
 mod progress;
 mod request;
-mod writing;
 
 use commands::carry_out;
 use hub_base::NoMemory;

@@ -4,3 +4,4 @@ mod Lines
 mod Rests
 mod Sums
 mod Waiting
+pub mod Written

@@ -1,4 +1,4 @@
--- The lines of the steps, one by one, and the parts of a page.
+-- The lines of the steps, one by one, and the parts of a sketch.
 use Rattle.std.proofs.Common.{◌≡◌, ℕ, ◌+◌, List, [], ◌++◌, ap, ◌∙◌, append_assoc, filter, sym, Option, Some}
 use Rattle.std.specs.Prelude.{slice_get}
 use Rattle.std.specs.Option.{option_map_or}
@@ -12,23 +12,15 @@ use Rattle.hub_page.specs.Data.{line_at, step_line}
 use Rattle.hub_base.specs.declared.limits.TheConstants.{MOST_PORTS}
 use Rattle.hub_page.specs.Sketch.{ports_below, ports_words}
 
--- the line, put together first, behind a text
-pub line-put : (w : Window) (procs : ℕ) (es : List Entry) (all : List Told) (place : ℕ) (e : Entry) (came : List Told)
-    (out cleared line now : List ℕ) → slice_get es place ≡ Some e → came ≡ came_by place all → cleared ≡ [] →
-    line ≡ cleared ++ step_line w procs es all place e came (filter (λ t. is_stalled t.event.what) came) → now ≡ out ++ line →
-    now ≡ out ++ line_at w procs es all place
-line-put w procs es all place e came out cleared line now there here none put is =
-    is ∙ ap (λ l. out ++ l)
-    (put ∙ ap (λ l. l ++ step_line w procs es all place e came (filter (λ t. is_stalled t.event.what) came)) none
-    ∙ ap (λ ts. step_line w procs es all place e ts (filter (λ t. is_stalled t.event.what) ts)) here
+-- the line, behind a text
+pub line-put : (w : Window) (procs : ℕ) (es : List Entry) (all : List Told) (place : ℕ) (e : Entry) (came : List Told) (out now : List ℕ) →
+    slice_get es place ≡ Some e → came ≡ came_by place all →
+    now ≡ out ++ step_line w procs es all place e came (filter (λ t. is_stalled t.event.what) came) → now ≡ out ++ line_at w procs es all place
+line-put w procs es all place e came out now there here put =
+    put ∙ ap (λ l. out ++ l)
+    (ap (λ ts. step_line w procs es all place e ts (filter (λ t. is_stalled t.event.what) ts)) here
     ∙ ap (step_line w procs es all place e (came_by place all)) (stalled-came place all)
     ∙ ap (λ (o : Option Entry). option_map_or (λ e. step_line w procs es all place e (came_by place all) (stalled_by all place)) o []) (sym there))
-
--- ---- the parts of a page
-pub five-parts : (a b c d e none one two three four five : List ℕ) → none ≡ [] → one ≡ none ++ a → two ≡ one ++ b → three ≡ two ++ c →
-    four ≡ three ++ d → five ≡ four ++ e → five ≡ a ++ b ++ c ++ d ++ e
-five-parts a b c d e none one two three four five is first second third fourth fifth =
-    fifth ∙ ap (λ l. l ++ e) (fourth ∙ ap (λ l. l ++ d) (third ∙ ap (λ l. l ++ c) (second ∙ ap (λ l. l ++ b) (first ∙ ap (λ l. l ++ a) is))))
 
 -- ---- the parts of a sketch
 pub four-parts : (start a b c d one two three four : List ℕ) → one ≡ start ++ a → two ≡ one ++ b → three ≡ two ++ c → four ≡ three ++ d →

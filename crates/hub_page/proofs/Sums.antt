@@ -98,3 +98,36 @@ held-next p xs i x start level was now below is so next =
 pub most-is : (b : Bool) (most level : ℕ) → cond b (max most level) most ≡ max most (cond b level 0)
 most-is true most level = refl
 most-is false most level = omega arith
+
+-- ---- the numbers before a number, and the others
+range-split : (a n m : ℕ) → range_with_len a (n + m) ≡ range_with_len a n ++ range_with_len (a + n) m
+range-split a n zero =
+    let none : n + 0 ≡ n = omega arith in
+    ap (range_with_len a) none ∙ sym (append-nil (range_with_len a n))
+range-split a n (suc m) =
+    let more : n + suc m ≡ suc (n + m) = omega arith in
+    let last : a + (n + m) ≡ (a + n) + m = omega arith in
+    ap (range_with_len a) more ∙ range-more a (n + m)
+    ∙ ap (λ l. l ++ (a + (n + m)) ∷ []) (range-split a n m)
+    ∙ append_assoc (range_with_len a n) (range_with_len (a + n) m) ((a + (n + m)) ∷ [])
+    ∙ ap (λ k. range_with_len a n ++ (range_with_len (a + n) m ++ k ∷ [])) last
+    ∙ ap (λ l. range_with_len a n ++ l) (sym (range-more (a + n) m))
+
+-- what the numbers before this one say is a beginning of what all say
+pub text-split : (f : ℕ → List ℕ) (n count : ℕ) → n ≤ count →
+    flat_map f (range_with_len 0 count) ≡ flat_map f (range_with_len 0 n) ++ flat_map f (range_with_len (0 + n) (count - n))
+text-split f n count few =
+    let parts : count ≡ n + (count - n) = omega arith in
+    ap (λ k. flat_map f (range_with_len 0 k)) parts ∙ ap (flat_map f) (range-split 0 n (count - n))
+    ∙ flat_map-append f (range_with_len 0 n) (range_with_len (0 + n) (count - n))
+
+pub text-from : (f : ℕ → List ℕ) (n count : ℕ) → n < count →
+    flat_map f (range_with_len (0 + n) (count - n)) ≡ f n ++ flat_map f (range_with_len (0 + n + 1) (count - (n + 1)))
+text-from f n count few =
+    let one : count - n ≡ suc (count - (n + 1)) = omega arith in
+    let here : 0 + n ≡ n = omega arith in
+    ap (λ k. flat_map f (range_with_len (0 + n) k)) one ∙ ap (λ k. f k ++ flat_map f (range_with_len (0 + n + 1) (count - (n + 1)))) here
+
+-- one number more
+pub numbers-next : (f : ℕ → List ℕ) (n : ℕ) → flat_map f (range_with_len 0 (n + 1)) ≡ flat_map f (range_with_len 0 n) ++ f n
+numbers-next f n = text-next f 0 n ∙ ap (λ k. flat_map f (range_with_len 0 n) ++ f k) (zero-left n)

@@ -12,6 +12,8 @@ pub mod Past
 pub mod Block
 pub mod Sketch
 pub mod Data
+pub mod KnownPage
 pub mod Viewer
 pub mod Page
 pub mod PageRows
+pub mod Faults

@@ -1,25 +1,29 @@
 //! The data of a page.
 
-ghost use Rattle.std.specs.Prelude.{◌≡◌, ◌<◌, ◌+◌, ◌-◌, ◌*◌, ◌^◌, ◌++◌, length, IfOk, OnOk};
-ghost use Rattle.std.specs.List.{flat_map, range_with_len};
+ghost use Rattle.std.specs.Prelude.{◌≡◌, ◌<◌, ◌+◌, ◌-◌, ◌*◌, ◌^◌, ◌++◌, length, IfErr, IfOk, OnErr, OnOk};
+ghost use Rattle.std.specs.Io.KnownBytes.{Appends};
 ghost use Rattle.hub_base.specs.Head.{IsHead};
 ghost use Rattle.hub_base.specs.Reading.{head_lines};
-ghost use Rattle.hub_page.specs.Block.{IsBlock};
-ghost use Rattle.hub_page.specs.Data.{block_begin, block_count, block_text, clock_words, data_text, whole_blocks, window_line};
-ghost use Rattle.hub_page.specs.Known.{IsKnown, entries_of, procs_of, told_of};
+ghost use Rattle.hub_replay.specs.Devices.{AppendsBeginning};
+ghost use Rattle.hub_story_text.specs.Clock.{clock_of};
+ghost use Rattle.hub_page.specs.Data.{block_begin, block_count, clock_words, whole_blocks, window_line};
+ghost use Rattle.hub_page.specs.Faults.{Fails};
+ghost use Rattle.hub_page.specs.Known.{IsKnown, entries_of, told_of};
+ghost use Rattle.hub_page.specs.KnownPage.{all_blocks, block_of, data_of};
 ghost use Rattle.hub_page.specs.Past.{IsPast, IsRest};
-ghost use Rattle.hub_page.specs.Sketch.{sketch_words};
 
 use crate::block::Block;
+use crate::fault::PageFault;
 use crate::known::Known;
 use crate::limits::BLOCK;
 use crate::number::put_number;
 use crate::past::Past;
 use crate::sketch::{Sketch, put_sketch};
-use crate::step_lines::push_lines;
-use hub_base::{Head, NoMemory, Pid};
+use crate::step_lines::put_lines;
+use hub_base::{NoMemory, Pid};
+use hub_replay::{Sink, write_whole};
 use hub_story::{Told, Window};
-use hub_story_text::{PackedText, clock_of};
+use hub_story_text::clock_of;
 use hub_text::write_head;
 use std::alloc::{AllocError, Global};
 
@@ -51,37 +55,9 @@ pub(crate) fn whole_blocks(count: usize, window: Window) -> Window
     }
 }
 
-/// Appends the sketch of a block that ends before this place.
-fn push_sketch(
-    out: &mut PackedText,
-    line: &mut Vec<u8>,
-    past: &Past,
-    block: &Block,
-    known: &Known<'_>,
-    end: usize,
-) -> Result<(), NoMemory>
-    requires few { end < 2 ^ 32 }
-    requires past { IsPast known.now end past.now }
-    requires block { IsBlock (entries_of known.now) (told_of known.now) (procs_of known.now) end block.now }
-    ensures { OnOk result (out.new.items ≡ out.old.items
-        ++ sketch_words (entries_of known.now) (told_of known.now) (procs_of known.now) block.now.first end) }
-{
-    let sketch = Sketch {
-        known,
-        past,
-        block,
-        end: end as u32,
-    };
-    line.clear();
-    put_sketch(line, &sketch)?;
-    out.push(line)?;
-    Ok(())
-}
-
-/// Appends the block of this number, and answers what comes behind it.
-fn push_block<'a>(
-    out: &mut PackedText,
-    line: &mut Vec<u8>,
+/// Makes the text of the block of this number, in place of what `text` has, and answers what comes behind the block.
+fn make_block<'a>(
+    text: &mut Vec<u8>,
     past: &mut Past,
     known: &Known<'_>,
     rest: &'a [Told],
@@ -92,49 +68,47 @@ fn push_block<'a>(
     requires number { BLOCK * (number + 1) < 2 ^ 33 }
     requires rest { IsRest (block_begin (length (entries_of known.now)) number) (told_of known.now) rest.now }
     requires past { IsPast known.now (block_begin (length (entries_of known.now)) number) past.old }
-    ensures text { OnOk result (out.new.items ≡ out.old.items
-        ++ block_text known.now.window (procs_of known.now) (entries_of known.now) (told_of known.now) number) }
+    ensures text { OnOk result (text.new.items ≡ block_of known.now number) }
     ensures rest { IfOk result (λ rest. IsRest (block_begin (length (entries_of known.now)) (number + 1)) (told_of known.now) rest.now) }
     ensures past { OnOk result (IsPast known.now (block_begin (length (entries_of known.now)) (number + 1)) past.new) }
 {
     let count = known.journal.entries().len();
     let first = block_begin(count, number);
     let end = block_begin(count, number + 1);
-    let mut block = Block::new(*line.allocator(), known, past, first as u32)?;
-    let rest = push_lines(out, line, past, &mut block, known, rest, end)?;
-    push_sketch(out, line, past, &block, known, end)?;
+    let mut block = Block::new(*text.allocator(), known, past, first as u32)?;
+    text.clear();
+    let rest = put_lines(text, past, &mut block, known, rest, end)?;
+    let sketch = Sketch {
+        known,
+        past,
+        block: &block,
+        end: end as u32,
+    };
+    put_sketch(text, &sketch)?;
     Ok(rest)
 }
 
-/// Appends all blocks.
-fn push_blocks(
-    out: &mut PackedText,
-    line: &mut Vec<u8>,
+/// Writes all blocks, each as soon as its text is made.
+fn write_blocks<W: Sink>(
+    output: &mut W,
+    alloc: Global,
     past: &mut Past,
     known: &Known<'_>,
-) -> Result<(), NoMemory>
+) -> Result<(), PageFault>
     requires known { IsKnown known.now }
     requires few { length (entries_of known.now) < 2 ^ 32 - 1 }
     requires past { IsPast known.now 0 past.old }
-    ensures { OnOk result (out.new.items ≡ out.old.items
-        ++ flat_map (block_text known.now.window (procs_of known.now) (entries_of known.now) (told_of known.now))
-        (range_with_len 0 (block_count (length (entries_of known.now))))) }
+    ensures whole { OnOk result (Appends (W.contents output.old) (W.contents output.new) (all_blocks known.now)) }
+    ensures beginning { OnErr result (AppendsBeginning (W.contents output.old) (W.contents output.new) (all_blocks known.now)) }
+    ensures err { IfErr result (Fails (W.failures output.old) (W.failures output.new)) }
+    ensures ok { OnOk result (W.failures output.new ≡ W.failures output.old) }
 {
+    let mut text = Vec::new(alloc);
     let mut rest: &[Told] = &known.story.told;
     for number in 0..block_count(known.journal.entries().len()) {
-        rest = push_block(out, line, past, known, rest, number)?;
+        rest = make_block(&mut text, past, known, rest, number)?;
+        write_whole(output, &text)?;
     }
-    Ok(())
-}
-
-/// Appends the head lines.
-fn push_head(out: &mut PackedText, line: &mut Vec<u8>, head: Head) -> Result<(), NoMemory>
-    requires { IsHead head }
-    ensures { OnOk result (out.new.items ≡ out.old.items ++ head_lines head) }
-{
-    line.clear();
-    write_head(line, head.edition, head.procs)?;
-    out.push(line)?;
     Ok(())
 }
 
@@ -149,40 +123,50 @@ fn put_clock(out: &mut Vec<u8>, clock: Option<Pid>) -> Result<(), AllocError>
 }
 
 /// Appends which steps are asked for, and which process is the clock.
-fn push_window(
-    out: &mut PackedText,
-    line: &mut Vec<u8>,
-    window: Window,
-    clock: Option<Pid>,
-) -> Result<(), NoMemory>
+fn put_window(out: &mut Vec<u8>, window: Window, clock: Option<Pid>) -> Result<(), AllocError>
     ensures { OnOk result (out.new.items ≡ out.old.items ++ window_line window clock) }
 {
-    line.clear();
-    put_number(line, b"steps ", u64::from(window.first) + 1)?;
-    put_number(line, b" ", window.end.into())?;
-    put_clock(line, clock)?;
-    line.extend_from_slice(b"\n")?;
-    out.push(line)?;
-    Ok(())
+    put_number(out, b"steps ", u64::from(window.first) + 1)?;
+    put_number(out, b" ", window.end.into())?;
+    put_clock(out, clock)?;
+    out.extend_from_slice(b"\n")
 }
 
-/// Appends the data of a page.
-pub(crate) fn push_data(
-    out: &mut PackedText,
+/// The lines before the blocks.
+fn first_lines(alloc: Global, known: &Known<'_>, window: Window) -> Result<Vec<u8>, NoMemory>
+    requires { IsHead known.now.journal.now.head }
+    ensures { IfOk result (λ lines. lines.items ≡ head_lines known.now.journal.now.head
+        ++ window_line window (clock_of known.now.journal.now.head (entries_of known.now))) }
+{
+    let mut lines = Vec::new(alloc);
+    let head = known.journal.head();
+    write_head(&mut lines, head.edition, head.procs)?;
+    put_window(&mut lines, window, clock_of(known.journal))?;
+    Ok(lines)
+}
+
+/// Writes the data of a page.
+pub(crate) fn write_data<W: Sink>(
+    output: &mut W,
     alloc: Global,
+    past: &mut Past,
     known: &Known<'_>,
     window: Window,
-) -> Result<(), NoMemory>
+) -> Result<(), PageFault>
     requires known { IsKnown known.now }
     requires window { known.now.window ≡ whole_blocks (length (entries_of known.now)) window }
     requires head { IsHead known.now.journal.now.head }
     requires few { length (entries_of known.now) < 2 ^ 32 - 1 }
-    ensures { OnOk result (out.new.items ≡ out.old.items
-        ++ data_text window known.now.journal.now.head (entries_of known.now) (told_of known.now)) }
+    requires past { IsPast known.now 0 past.old }
+    ensures whole { OnOk result (Appends (W.contents output.old) (W.contents output.new)
+        (data_of window known.now)) }
+    ensures beginning { OnErr result (AppendsBeginning (W.contents output.old) (W.contents output.new)
+        (data_of window known.now)) }
+    ensures err { IfErr result (Fails (W.failures output.old) (W.failures output.new)) }
+    ensures ok { OnOk result (W.failures output.new ≡ W.failures output.old) }
 {
-    let mut past = Past::new(alloc, known)?;
-    let mut line = Vec::new(alloc);
-    push_head(out, &mut line, known.journal.head())?;
-    push_window(out, &mut line, window, clock_of(known.journal))?;
-    push_blocks(out, &mut line, &mut past, known)
+    let lines = first_lines(alloc, known, window)?;
+    write_whole(output, &lines)?;
+    write_blocks(output, alloc, past, known)?;
+    Ok(())
 }

@@ -7,6 +7,7 @@ mod data;
 mod ends;
 mod entries;
 mod excerpt;
+mod fault;
 mod known;
 mod lanes;
 mod levels;
@@ -20,5 +21,8 @@ mod sketch;
 mod stalls;
 mod step_lines;
 mod viewer;
+mod writing;
 
-pub use page::page_text;
+pub use fault::PageFault;
+pub use page::write_page;
+pub use writing::{room, write_text};

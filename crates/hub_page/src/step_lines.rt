@@ -1,17 +1,16 @@
 //! The lines of the steps, and what is known and counted behind each of them.
 
 ghost use Rattle.std.specs.Prelude.{◌≡◌, ◌≤◌, ◌<◌, ◌+◌, ◌-◌, ◌^◌, ◌++◌, filter, length, IfOk, OnOk};
-ghost use Rattle.std.specs.List.{flat_map};
 ghost use Rattle.hub_story.specs.Levels.{told_by};
 ghost use Rattle.hub_story.specs.Waiting.{is_stalled};
 ghost use Rattle.hub_story_text.specs.LastMoves.{AreLast};
 ghost use Rattle.hub_story_text.specs.StoryText.{came_by};
 ghost use Rattle.hub_page.specs.Block.{IsBlock, IsWhole};
-ghost use Rattle.hub_page.specs.Data.{full_line, line_at, step_line};
+ghost use Rattle.hub_page.specs.Data.{full_line, step_line};
 ghost use Rattle.hub_page.specs.Known.{IsKnown, entries_of, procs_of, told_of};
+ghost use Rattle.hub_page.specs.KnownPage.{line_of, lines_of};
 ghost use Rattle.hub_page.specs.Levels.{AreLevels};
 ghost use Rattle.hub_page.specs.Past.{IsPast, IsRest};
-ghost use Rattle.hub_page.specs.Places.{places};
 ghost use Rattle.hub_page.specs.Stalls.{stall_words};
 
 use crate::block::Block;
@@ -24,7 +23,7 @@ use crate::past::Past;
 use crate::stalls::{Stall, put_stall};
 use hub_base::{Case, EntryRef, NoMemory};
 use hub_story::Told;
-use hub_story_text::{LastMoves, PackedText, count_of, stalled_of};
+use hub_story_text::{LastMoves, count_of, stalled_of};
 use std::alloc::AllocError;
 
 /// Appends what is told of those of these calls that the step at this place stalled.
@@ -99,9 +98,8 @@ fn put_line(
 }
 
 /// Appends the line of the entry at this place, by whose step these events came, and takes in what it tells.
-fn push_step(
-    out: &mut PackedText,
-    line: &mut Vec<u8>,
+fn put_step(
+    out: &mut Vec<u8>,
     past: &mut Past,
     block: &mut Block,
     known: &Known<'_>,
@@ -116,7 +114,7 @@ fn push_step(
     requires past { IsPast known.now place past.old }
     requires block { IsBlock (entries_of known.now) (told_of known.now) (procs_of known.now) place block.old }
     requires whole { IsWhole (procs_of known.now) block.old }
-    ensures text { OnOk result (out.new.items ≡ out.old.items ++ line_at known.now.window (procs_of known.now) (entries_of known.now) (told_of known.now) place) }
+    ensures text { OnOk result (out.new.items ≡ out.old.items ++ line_of known.now place) }
     ensures past { OnOk result (IsPast known.now (place + 1) past.new) }
     ensures block { OnOk result (IsBlock (entries_of known.now) (told_of known.now) (procs_of known.now) (place + 1) block.new) }
     ensures whole { OnOk result (IsWhole (procs_of known.now) block.new) }
@@ -130,9 +128,8 @@ fn push_step(
     let mut one = Case::default();
     let entry = entries.entry(place, &mut one);
     block.note_step(entries, procs, entry.pid, came, past)?;
-    line.clear();
     put_line(
-        line,
+        out,
         known,
         &past.levels,
         &past.last,
@@ -140,14 +137,12 @@ fn push_step(
         &entry,
         came,
     )?;
-    out.push(line)?;
     Ok(())
 }
 
 /// Appends the lines from the block's first step on, before the end, and answers what comes behind them.
-pub(crate) fn push_lines<'a>(
-    out: &mut PackedText,
-    line: &mut Vec<u8>,
+pub(crate) fn put_lines<'a>(
+    out: &mut Vec<u8>,
     past: &mut Past,
     block: &mut Block,
     known: &Known<'_>,
@@ -163,7 +158,7 @@ pub(crate) fn push_lines<'a>(
     requires block { IsBlock (entries_of known.now) (told_of known.now) (procs_of known.now) block.old.first block.old }
     requires whole { IsWhole (procs_of known.now) block.old }
     ensures text { OnOk result (out.new.items ≡ out.old.items
-        ++ flat_map (line_at known.now.window (procs_of known.now) (entries_of known.now) (told_of known.now)) (places block.old.first end)) }
+        ++ lines_of known.now block.old.first end) }
     ensures rest { IfOk result (λ rest. IsRest end (told_of known.now) rest.now) }
     ensures past { OnOk result (IsPast known.now end past.new) }
     ensures block { OnOk result (IsBlock (entries_of known.now) (told_of known.now) (procs_of known.now) end block.new) }
@@ -171,7 +166,7 @@ pub(crate) fn push_lines<'a>(
 {
     for place in block.first as usize..end {
         let (came, later) = rest.split_at(count_of(rest, place as u32));
-        push_step(out, line, past, block, known, place, came)?;
+        put_step(out, past, block, known, place, came)?;
         rest = later;
     }
     Ok(rest)

@@ -1,7 +1,9 @@
 //! What stands in every page, whatever its journal: the files of the folder `viewer`.
 
-ghost use Rattle.std.specs.Prelude.{◌≡◌, ◌++◌, OnOk};
-ghost use Rattle.hub_page.specs.Viewer.{after_text, before_text, between_text, panel_text, scripts_text};
+ghost use Rattle.std.specs.Prelude.{◌≡◌, OnErr, OnOk};
+ghost use Rattle.std.specs.Io.KnownBytes.{Appends};
+ghost use Rattle.hub_replay.specs.Devices.{AppendsBeginning, Failed};
+ghost use Rattle.hub_page.specs.Viewer.{after_text, before_text, between_text};
 
 mod body;
 mod data;
@@ -15,50 +17,48 @@ mod story;
 mod style;
 mod view;
 
-use hub_story_text::PackedText;
-use std::alloc::AllocError;
+use crate::writing::write_texts;
+use hub_replay::{Sink, WriteFailed, write_whole};
 
-/// Appends what stands before the data.
-pub(crate) fn push_before(out: &mut PackedText) -> Result<(), AllocError>
-    ensures { OnOk result (out.new.items ≡ out.old.items ++ before_text) }
+/// Writes what stands before the data.
+pub(crate) fn write_before<W: Sink>(output: &mut W) -> Result<(), WriteFailed>
+    ensures whole { OnOk result (Appends (W.contents output.old) (W.contents output.new) before_text) }
+    ensures beginning { OnErr result (AppendsBeginning (W.contents output.old) (W.contents output.new) before_text) }
+    ensures err { OnErr result (Failed (W.failures output.old) (W.failures output.new)) }
+    ensures ok { OnOk result (W.failures output.new ≡ W.failures output.old) }
 {
-    out.push(head::TEXT)?;
-    out.push(style::TEXT)?;
-    out.push(body::TEXT)
+    write_texts(output, &[head::TEXT, style::TEXT, body::TEXT])
 }
 
-/// Appends what stands between the data and the end of the story.
-pub(crate) fn push_between(out: &mut PackedText) -> Result<(), AllocError>
-    ensures { OnOk result (out.new.items ≡ out.old.items ++ between_text) }
+/// Writes what stands between the data and the end of the story.
+pub(crate) fn write_between<W: Sink>(output: &mut W) -> Result<(), WriteFailed>
+    ensures whole { OnOk result (Appends (W.contents output.old) (W.contents output.new) between_text) }
+    ensures beginning { OnErr result (AppendsBeginning (W.contents output.old) (W.contents output.new) between_text) }
+    ensures err { OnErr result (Failed (W.failures output.old) (W.failures output.new)) }
+    ensures ok { OnOk result (W.failures output.new ≡ W.failures output.old) }
 {
-    out.push(story::TEXT)
+    write_whole(output, story::TEXT)
 }
 
-/// Appends the scripts that read, arrange and draw the data.
-fn push_scripts(out: &mut PackedText) -> Result<(), AllocError>
-    ensures { OnOk result (out.new.items ≡ out.old.items ++ scripts_text) }
+/// Writes what stands behind the end of the story.
+pub(crate) fn write_after<W: Sink>(output: &mut W) -> Result<(), WriteFailed>
+    ensures whole { OnOk result (Appends (W.contents output.old) (W.contents output.new) after_text) }
+    ensures beginning { OnErr result (AppendsBeginning (W.contents output.old) (W.contents output.new) after_text) }
+    ensures err { OnErr result (Failed (W.failures output.old) (W.failures output.new)) }
+    ensures ok { OnOk result (W.failures output.new ≡ W.failures output.old) }
 {
-    out.push(data::FIRST)?;
-    out.push(data::SECOND)?;
-    out.push(view::TEXT)?;
-    out.push(paint::FIRST)?;
-    out.push(paint::SECOND)
-}
-
-/// Appends the scripts of what is told in words and chosen, and the page's end.
-fn push_panel(out: &mut PackedText) -> Result<(), AllocError>
-    ensures { OnOk result (out.new.items ≡ out.old.items ++ panel_text) }
-{
-    out.push(panel::TEXT)?;
-    out.push(main::TEXT)?;
-    out.push(end::TEXT)
-}
-
-/// Appends what stands behind the end of the story.
-pub(crate) fn push_after(out: &mut PackedText) -> Result<(), AllocError>
-    ensures { OnOk result (out.new.items ≡ out.old.items ++ after_text) }
-{
-    out.push(scripts::TEXT)?;
-    push_scripts(out)?;
-    push_panel(out)
+    write_texts(
+        output,
+        &[
+            scripts::TEXT,
+            data::FIRST,
+            data::SECOND,
+            view::TEXT,
+            paint::FIRST,
+            paint::SECOND,
+            panel::TEXT,
+            main::TEXT,
+            end::TEXT,
+        ],
+    )
 }

@@ -1,17 +1,19 @@
 //! `chanhub_tool page [FROM [TO]] [FILE] [-o OUT]`.
 
-ghost use Rattle.std.specs.Prelude.{◌≡◌, ◌<◌, ◌-◌, ◌^◌, length, IfOk};
+ghost use Rattle.std.specs.Prelude.{◌<◌, ◌-◌, ◌^◌, length, IfErr, OnErr, OnOk};
+ghost use Rattle.std.specs.Io.KnownBytes.{Appends};
 ghost use Rattle.hub_base.specs.Head.{IsHead};
+ghost use Rattle.hub_replay.specs.Devices.{AppendsBeginning};
 ghost use Rattle.hub_story.specs.Told.{told};
+ghost use Rattle.hub_page.specs.Faults.{Fails};
 ghost use Rattle.hub_page.specs.Page.{page_text};
 
 use crate::given::journal_command;
 use clap::Command;
-use hub_base::NoMemory;
 use hub_core::ShortJournal;
-use hub_page::page_text;
+use hub_page::{PageFault, write_page};
+use hub_replay::Sink;
 use hub_story::{Window, short_story_of};
-use hub_story_text::PackedText;
 use std::alloc::{AllocError, Global};
 
 pub(super) fn grammar<'a>(alloc: Global) -> Result<Command<'a>, AllocError> {
@@ -23,17 +25,21 @@ pub(super) fn grammar<'a>(alloc: Global) -> Result<Command<'a>, AllocError> {
     )
 }
 
-/// The page of these steps.
-pub(crate) fn page_of(
+/// Writes the page of these steps.
+pub(crate) fn write_page_of<W: Sink>(
     alloc: Global,
     journal: &ShortJournal,
     window: Window,
-) -> Result<PackedText, NoMemory>
+    output: &mut W,
+) -> Result<(), PageFault>
     requires head { IsHead journal.now.head }
     requires few { length journal.now.entries < 2 ^ 32 - 1 }
-    ensures { IfOk result (λ text. text.items
-        ≡ page_text window journal.now.head journal.now.entries (told journal.now.head journal.now.entries)) }
+    ensures whole { OnOk result (Appends (W.contents output.old) (W.contents output.new)
+        (page_text window journal.now.head journal.now.entries (told journal.now.head journal.now.entries))) }
+    ensures beginning { OnErr result (AppendsBeginning (W.contents output.old) (W.contents output.new)
+        (page_text window journal.now.head journal.now.entries (told journal.now.head journal.now.entries))) }
+    ensures err { IfErr result (Fails (W.failures output.old) (W.failures output.new)) }
 {
     let story = short_story_of(alloc, journal)?;
-    page_text(alloc, journal, &story, window)
+    write_page(alloc, journal, &story, window, output)
 }

@@ -1,8 +1,8 @@
 use Rattle.std.proofs.Common.{rules, ◌∙◌, ◌++◌, ◌+◌, [], ap, append-nil, append_assoc, drop, get_or, sym}
 use Rattle.std.proofs.KnownBytes.{Appends-trans}
 use Rattle.hub_story_text.specs.Packed.{joined}
-use Rattle.chanhub_tool.proofs.Blocks.{all-written, begun, block-written, from-there, if-err, on-err}
-use Rattle.chanhub_tool.proofs.writing.write_text.Goals as goal
+use Rattle.hub_page.proofs.Written.{all-written, begun, block-written, from-there, if-err, on-err}
+use Rattle.hub_page.proofs.writing.write_text.Goals as goal
 
 pub loop-block-preserved : goal.loop-block-preserved
 loop-block-preserved g c =

@@ -5,14 +5,13 @@ use Rattle.hub_page.specs.Levels.{AreLevels}
 use Rattle.hub_page.specs.ParkedCalls.{AreParked}
 use Rattle.hub_page.proofs.Blocks.{block-next}
 use Rattle.hub_page.proofs.Lines.{line-put}
-use Rattle.hub_page.proofs.step_lines.push_step.Goals as goal
+use Rattle.hub_page.proofs.step_lines.put_step.Goals as goal
 
 pub returns-clause-text : goal.returns-clause-text
 returns-clause-text c =
     let k = c.args.known.now in
-    line-put k.window (procs_of k) (entries_of k) (told_of k) c.args.place c.entry-entry.result c.args.came.now c.args.out.now.items
-    c.clear.new.self.items _ _ (rw c.entries-entries.ensures at c.entry-entry.ensures) c.requires.came c.clear.ensures.items
-    (rw c.deref.ensures.value c.in_ok-put_line.ensures) c.in_ok-push.ensures
+    line-put k.window (procs_of k) (entries_of k) (told_of k) c.args.place c.entry-entry.result c.args.came.now c.args.out.now.items _
+    (rw c.entries-entries.ensures at c.entry-entry.ensures) c.requires.came c.in_ok-put_line.ensures
 
 pub returns-clause-past : goal.returns-clause-past
 returns-clause-past c =

@@ -1,11 +1,9 @@
 use Rattle.std.proofs.Common.{◌≡◌, ◌++◌}
-use Rattle.std.specs.List.{flat_map}
 use Rattle.hub_page.specs.Block.{IsBlock, IsWhole}
-use Rattle.hub_page.specs.Data.{line_at}
 use Rattle.hub_page.specs.Known.{entries_of, procs_of, told_of}
+use Rattle.hub_page.specs.KnownPage.{lines_of}
 use Rattle.hub_page.specs.Past.{IsPast, IsRest}
-use Rattle.hub_page.specs.Places.{places}
-use Rattle.hub_page.proofs.step_lines.push_lines.Given as goal
+use Rattle.hub_page.proofs.step_lines.put_lines.Given as goal
 
 abbrev pub invariant-loop-place : goal.invariant-loop-place
 invariant-loop-place l = record {
@@ -15,5 +13,5 @@ invariant-loop-place l = record {
   whole : IsWhole (procs_of l.known) l.block;
   first : l.block.first ≡ l.fn.block.first;
   text : l.out.items ≡ l.fn.out.items
-      ++ flat_map (line_at l.known.window (procs_of l.known) (entries_of l.known) (told_of l.known)) (places l.fn.block.first l.place);
+      ++ lines_of l.known l.fn.block.first l.place;
 }

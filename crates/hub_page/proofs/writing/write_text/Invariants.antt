@@ -2,7 +2,7 @@
 use Rattle.std.proofs.Common.{◌≡◌, ◌≤◌, ℕ, List, ◌++◌, drop, vec_capacity}
 use Rattle.std.specs.Io.KnownBytes.{Appends}
 use Rattle.hub_story_text.specs.Packed.{joined}
-use Rattle.chanhub_tool.proofs.writing.write_text.Given as goal
+use Rattle.hub_page.proofs.writing.write_text.Given as goal
 
 abbrev pub invariant-loop-block : goal.invariant-loop-block
 invariant-loop-block g l =

@@ -1,23 +1,24 @@
-//! Writing a text that is kept short. No memory is asked for, so that only a write can fail.
+//! Writing texts. No memory is asked for, so that only a write can fail.
 
 ghost use Rattle.std.specs.Prelude.{◌≡◌, ◌≤◌, vec_capacity, IfOk, OnErr, OnOk};
 ghost use Rattle.std.specs.Io.KnownBytes.{Appends};
 ghost use Rattle.hub_replay.specs.Devices.{AppendsBeginning, Failed};
+ghost use Rattle.hub_replay.specs.FaultLines.{joined};
 
 use hub_base::NoMemory;
 use hub_replay::{Sink, WriteFailed, write_whole};
 use hub_story_text::{MOST_BLOCK, PackedText};
 use std::alloc::Global;
 
-/// Room for the bytes of a block.
-pub(crate) fn room(alloc: Global) -> Result<Vec<u8>, NoMemory>
+/// Room for the bytes of a block of a packed text.
+pub fn room(alloc: Global) -> Result<Vec<u8>, NoMemory>
     ensures { IfOk result (λ bytes. MOST_BLOCK ≤ vec_capacity bytes) }
 {
     Ok(Vec::with_capacity(alloc, MOST_BLOCK)?)
 }
 
-/// Writes all of a text, and stops at the first write that fails. `bytes` has room for a block.
-pub(crate) fn write_text<W: Sink>(
+/// Writes all of a packed text, and stops at the first write that fails. `bytes` has room for a block.
+pub fn write_text<W: Sink>(
     output: &mut W,
     text: &PackedText,
     bytes: &mut Vec<u8>,
@@ -35,4 +36,18 @@ pub(crate) fn write_text<W: Sink>(
         write_whole(output, bytes)?;
     }
     write_whole(output, rest)
+}
+
+/// Writes these texts, one behind the other, and stops at the first write that fails.
+pub(crate) fn write_texts<W: Sink>(output: &mut W, texts: &[&[u8]]) -> Result<(), WriteFailed>
+    ensures whole { OnOk result (Appends (W.contents output.old) (W.contents output.new) (joined texts.now)) }
+    ensures beginning { OnErr result
+        (AppendsBeginning (W.contents output.old) (W.contents output.new) (joined texts.now)) }
+    ensures err { OnErr result (Failed (W.failures output.old) (W.failures output.new)) }
+    ensures ok { OnOk result (W.failures output.new ≡ W.failures output.old) }
+{
+    for text in texts {
+        write_whole(output, text)?;
+    }
+    Ok(())
 }

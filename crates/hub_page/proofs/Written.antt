@@ -1,0 +1,105 @@
+-- Texts that are written one after the other.
+use Rattle.std.proofs.Common.{◌≡◌, ◌∙◌, ◌<◌, ◌≤◌, ◌+◌, ℕ, List, [], ◌++◌, length, drop, get_or, ap, refl, sym}
+use Rattle.std.proofs.Common.{append_assoc, append-nil, add-one, Bor, Option, Result, Ok, Err, OnErr, IfErr, IsErrAnd, subst}
+use Rattle.std.proofs.lemmas.List.{drop_all}
+use Rattle.std.proofs.Math.Seq.{drop-cons}
+use Rattle.std.specs.Io.KnownBytes.{Appends}
+use Rattle.std.proofs.KnownBytes.{Appends-nil, Appends-trans}
+use Rattle.hub_replay.specs.Devices.{AppendsBeginning}
+use Rattle.hub_replay.specs.FaultLines as frame
+use Rattle.hub_story_text.specs.Packed.{joined}
+
+-- ---- the blocks of a packed text
+pub from-there : (blocks : List (List ℕ)) (i : ℕ) (d : List ℕ) → i < length blocks → joined (drop i blocks) ≡ get_or blocks i d ++ joined (drop (i + 1) blocks)
+from-there blocks i d below = ap joined (drop-cons blocks i d below) ∙ ap (λ k. get_or blocks i d ++ joined (drop k blocks)) (sym (add-one i))
+
+-- one block more was written
+pub block-written : (blocks : List (List ℕ)) (i : ℕ) (d block written : List ℕ) → block ≡ get_or blocks i d → i < length blocks →
+    joined blocks ≡ written ++ joined (drop i blocks) → joined blocks ≡ (written ++ block) ++ joined (drop (i + 1) blocks)
+block-written blocks i d block written is below split =
+    split ∙ ap (λ l. written ++ l) (from-there blocks i d below ∙ ap (λ l. l ++ joined (drop (i + 1) blocks)) (sym is))
+    ∙ sym (append_assoc written block (joined (drop (i + 1) blocks)))
+
+-- all blocks were written
+pub all-written : (blocks : List (List ℕ)) (i : ℕ) (written : List ℕ) → length blocks ≤ i → joined blocks ≡ written ++ joined (drop i blocks)
+    → joined blocks ≡ written
+all-written blocks i written past split = split ∙ ap (λ l. written ++ joined l) (drop_all i blocks past) ∙ append-nil written
+
+-- ---- texts of the frame
+module _ (texts : List (Bor (List ℕ))) (i : ℕ) (d : Bor (List ℕ)) (text : List ℕ) (at : text ≡ (get_or texts i d).now) (below : i < length texts) where
+  pub text-there : frame.joined (drop i texts) ≡ text ++ frame.joined (drop (i + 1) texts)
+  text-there =
+      ap frame.joined (drop-cons texts i d below) ∙ ap (λ n. (get_or texts i d).now ++ frame.joined (drop n texts)) (sym (add-one i))
+      ∙ ap (λ l. l ++ frame.joined (drop (i + 1) texts)) (sym at)
+
+  -- one text more was written
+  pub text-written : (written : List ℕ) → frame.joined texts ≡ written ++ frame.joined (drop i texts) →
+      frame.joined texts ≡ (written ++ text) ++ frame.joined (drop (i + 1) texts)
+  text-written written split =
+      split ∙ ap (λ l. written ++ l) text-there ∙ sym (append_assoc written text (frame.joined (drop (i + 1) texts)))
+
+-- ---- what was written
+-- one text more was written
+pub one-more : (old now new : Option (List ℕ)) (written text block all : List ℕ) → Appends old now written → Appends now new text → text ≡ block →
+    all ≡ written ++ block → Appends old new all
+one-more old now new written text block all before more is whole =
+    subst (λ (l : List ℕ). Appends old new l) (sym (whole ∙ ap (λ l. written ++ l) (sym is))) (Appends-trans old now new written text before more)
+
+-- ---- a beginning
+-- a beginning of what is left was written
+pub begun : (old now new : Option (List ℕ)) (written left block behind text : List ℕ) → Appends old now written → AppendsBeginning now new block →
+    left ≡ block ++ behind → text ≡ written ++ left → AppendsBeginning old new text
+begun old now new written left block behind text before (front, back, split, more) is whole = (
+  written ++ front,
+  back ++ behind,
+  whole ∙ ap (λ l. written ++ l) (is ∙ ap (λ l. l ++ behind) split ∙ append_assoc front back behind)
+      ∙ sym (append_assoc written front (back ++ behind)),
+  Appends-trans _ _ _ _ _ before more,
+)
+
+-- a beginning of the second of two texts was written behind the first
+pub then-begun : (old now new : Option (List ℕ)) (first second : List ℕ) → Appends old now first → AppendsBeginning now new second →
+    AppendsBeginning old new (first ++ second)
+then-begun old now new first second before begins =
+    begun old now new first second second [] (first ++ second) before begins (sym (append-nil second)) refl
+
+-- a beginning of a text is one of what it begins
+pub first-begun : (old new : Option (List ℕ)) (first second : List ℕ) → AppendsBeginning old new first → AppendsBeginning old new (first ++ second)
+first-begun old new first second (front, back, split, more) =
+    (front, back ++ second, ap (λ l. l ++ second) split ∙ append_assoc front back second, more)
+
+-- nothing was written of a text
+pub none-begun : (old : Option (List ℕ)) (text : List ℕ) → AppendsBeginning old old text
+none-begun old text = ([], text, refl, Appends-nil old)
+
+-- ---- the parts of a page
+module _ (before rest between story after : List ℕ) (old one two three four new : Option (List ℕ)) where
+  pub three-written : Appends old one before → Appends one two rest → Appends two three between → Appends old three (before ++ rest ++ between)
+  three-written first second third =
+      Appends-trans old two three (before ++ rest) between (Appends-trans old one two before rest first second) third
+
+  pub five-written : Appends old three (before ++ rest ++ between) → Appends three four story → Appends four new after →
+      Appends old new (before ++ rest ++ between ++ story ++ after)
+  five-written first fourth fifth =
+      Appends-trans old four new (before ++ rest ++ between ++ story) after
+      (Appends-trans old three four (before ++ rest ++ between) story first fourth) fifth
+
+  pub fourth-begun : Appends old three (before ++ rest ++ between) → AppendsBeginning three four story →
+      AppendsBeginning old four (before ++ rest ++ between ++ story ++ after)
+  fourth-begun first begins =
+      first-begun old four (before ++ rest ++ between ++ story) after (then-begun old three four (before ++ rest ++ between) story first begins)
+
+  pub fifth-begun : Appends old three (before ++ rest ++ between) → Appends three four story → AppendsBeginning four new after →
+      AppendsBeginning old new (before ++ rest ++ between ++ story ++ after)
+  fifth-begun first fourth begins =
+      then-begun old four new (before ++ rest ++ between ++ story) after
+      (Appends-trans old three four (before ++ rest ++ between) story first fourth) begins
+
+-- ---- where a write or memory failed
+pub on-err : {A E P : Type 0} (r : Result A E) → P → OnErr r P
+on-err (Ok x) p = tt
+on-err (Err e) p = p
+
+pub if-err : {A E P Q : Type 0} (r : Result A E) → (P → Q) → OnErr r P → OnErr r Q
+if-err (Ok x) f p = tt
+if-err (Err e) f p = f p

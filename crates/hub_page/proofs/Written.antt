@@ -1,6 +1,6 @@
 -- Texts that are written one after the other.
 use Rattle.std.proofs.Common.{◌≡◌, ◌∙◌, ◌<◌, ◌≤◌, ◌+◌, ℕ, List, [], ◌++◌, length, drop, get_or, ap, refl, sym}
-use Rattle.std.proofs.Common.{append_assoc, append-nil, add-one, Bor, Option, Result, Ok, Err, OnErr, IfErr, IsErrAnd, subst}
+use Rattle.std.proofs.Common.{append_assoc, append-nil, add-one, Bor, Option, Result, Ok, Err, OnErr, subst}
 use Rattle.std.proofs.lemmas.List.{drop_all}
 use Rattle.std.proofs.Math.Seq.{drop-cons}
 use Rattle.std.specs.Io.KnownBytes.{Appends}
@@ -72,28 +72,21 @@ first-begun old new first second (front, back, split, more) =
 pub none-begun : (old : Option (List ℕ)) (text : List ℕ) → AppendsBeginning old old text
 none-begun old text = ([], text, refl, Appends-nil old)
 
--- ---- the parts of a page
-module _ (before rest between story after : List ℕ) (old one two three four new : Option (List ℕ)) where
-  pub three-written : Appends old one before → Appends one two rest → Appends two three between → Appends old three (before ++ rest ++ between)
-  three-written first second third =
-      Appends-trans old two three (before ++ rest) between (Appends-trans old one two before rest first second) third
+-- ---- three texts, one behind the other
+module _ (first second third : List ℕ) where
+  pub three-written : (old one two new : Option (List ℕ)) → Appends old one first → Appends one two second → Appends two new third →
+      Appends old new (first ++ second ++ third)
+  three-written old one two new here there last =
+      Appends-trans old two new (first ++ second) third (Appends-trans old one two first second here there) last
 
-  pub five-written : Appends old three (before ++ rest ++ between) → Appends three four story → Appends four new after →
-      Appends old new (before ++ rest ++ between ++ story ++ after)
-  five-written first fourth fifth =
-      Appends-trans old four new (before ++ rest ++ between ++ story) after
-      (Appends-trans old three four (before ++ rest ++ between) story first fourth) fifth
+  pub second-begun : (old one new : Option (List ℕ)) → Appends old one first → AppendsBeginning one new second →
+      AppendsBeginning old new (first ++ second ++ third)
+  second-begun old one new here begins = first-begun old new (first ++ second) third (then-begun old one new first second here begins)
 
-  pub fourth-begun : Appends old three (before ++ rest ++ between) → AppendsBeginning three four story →
-      AppendsBeginning old four (before ++ rest ++ between ++ story ++ after)
-  fourth-begun first begins =
-      first-begun old four (before ++ rest ++ between ++ story) after (then-begun old three four (before ++ rest ++ between) story first begins)
-
-  pub fifth-begun : Appends old three (before ++ rest ++ between) → Appends three four story → AppendsBeginning four new after →
-      AppendsBeginning old new (before ++ rest ++ between ++ story ++ after)
-  fifth-begun first fourth begins =
-      then-begun old four new (before ++ rest ++ between ++ story) after
-      (Appends-trans old three four (before ++ rest ++ between) story first fourth) begins
+  pub third-begun : (old one two new : Option (List ℕ)) → Appends old one first → Appends one two second → AppendsBeginning two new third →
+      AppendsBeginning old new (first ++ second ++ third)
+  third-begun old one two new here there begins =
+      then-begun old two new (first ++ second) third (Appends-trans old one two first second here there) begins
 
 -- ---- where a write or memory failed
 pub on-err : {A E P : Type 0} (r : Result A E) → P → OnErr r P

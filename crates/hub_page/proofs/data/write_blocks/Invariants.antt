@@ -1,5 +1,5 @@
 -- The blocks so far were written, and no write has failed.
-use Rattle.std.proofs.Common.{◌≡◌, ◌≤◌, length}
+use Rattle.std.proofs.Common.{◌≡◌, length}
 use Rattle.std.specs.Io.KnownBytes.{Appends}
 use Rattle.hub_page.specs.Data.{block_begin}
 use Rattle.hub_page.specs.Known.{entries_of, told_of}

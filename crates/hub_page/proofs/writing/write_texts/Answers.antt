@@ -1,4 +1,4 @@
-use Rattle.std.proofs.Common.{rules, ◌+◌, ◌++◌, drop, refl}
+use Rattle.std.proofs.Common.{rules, ◌+◌, drop, refl}
 use Rattle.std.proofs.KnownBytes.{Appends-trans}
 use Rattle.hub_replay.specs.FaultLines.{joined}
 use Rattle.hub_page.proofs.Written.{begun, on-err, text-there, text-written}

@@ -1,16 +1,46 @@
 -- Where not all was written.
-use Rattle.std.proofs.Common.{Result, Ok, Err, IfErr}
+use Rattle.std.proofs.Common.{◌≡◌, ℕ, List, Result, Ok, Err, IfErr, IsErrAnd, subst, sym, inr}
+use Rattle.hub_base.specs.Journal.{JournalView}
+use Rattle.hub_page.specs.declared.fault.PageFault.{PageFault}
+use Rattle.hub_page.specs.declared.fault.PageFault.TheVariants as page
+use Rattle.hub_page.specs.Faults.{Fails, replay_fault}
+use Rattle.hub_replay.specs.Devices.{Failed}
 use Rattle.hub_replay.specs.declared.fault.ReplayFault.{ReplayFault}
 use Rattle.hub_replay.specs.declared.fault.ReplayFault.TheVariants as replay
-use Rattle.chanhub_tool.specs.Promises.{EndsEarly}
+use Rattle.hub_story.specs.declared.window.Window.{Window}
+use Rattle.chanhub_tool.specs.declared.asked.Form.{Form}
+use Rattle.chanhub_tool.specs.declared.asked.Form.TheVariants as form
+use Rattle.chanhub_tool.specs.Explains.{IsIn, Shows}
+use Rattle.chanhub_tool.specs.Promises.{EndsEarly, HasNoMemory}
 
--- what is known of it in other words
-early : {A B F C D : Type 0} (fault : ReplayFault) → (A → B) → (C → D) → EndsEarly A F C fault → EndsEarly B F D fault
-early (replay.Text text) refused begun so = so
-early replay.Read refused begun so = so
-early replay.Write refused begun so = (so.0, begun so.1)
-early replay.NoMemory refused begun so = refused so
+module _ (f : Form) (w : Window) (given : JournalView) (text : List ℕ) (Unwritten : Type 0) (Begins : List ℕ → Type 0) (is : IsIn f w given text) where
+  shows : Begins text → Shows f w given Begins
+  shows begins = record { text = text; is = is; written = begins }
 
-pub ends-early : {T A B F C D : Type 0} (r : Result T ReplayFault) → (A → B) → (C → D) → IfErr r (EndsEarly A F C) → IfErr r (EndsEarly B F D)
-ends-early (Ok x) refused begun so = tt
-ends-early (Err fault) refused begun so = early fault refused begun so
+  -- a picture, all of which is made before anything is written
+  pub picture-early : {T : Type 0} (Failing Unfailed : Type 0) (r : Result T ReplayFault) → f ≡ form.Picture →
+      IfErr r (EndsEarly Unwritten Failing (Begins text)) →
+      IfErr r (EndsEarly (HasNoMemory f Unwritten (Unfailed × Shows f w given Begins)) Failing (Shows f w given Begins))
+  picture-early Failing Unfailed (Ok x) same so = tt
+  picture-early Failing Unfailed (Err (replay.Text fault)) same so = so
+  picture-early Failing Unfailed (Err replay.Read) same so = so
+  picture-early Failing Unfailed (Err replay.Write) same so = (so.0, shows so.1)
+  picture-early Failing Unfailed (Err replay.NoMemory) same so =
+      subst (λ (f' : Form). HasNoMemory f' Unwritten (Unfailed × Shows f w given Begins)) (sym same) so
+
+  -- a page, which is written as it goes
+  page-fault : (before after : ℕ) (fault : PageFault) → f ≡ form.Page → Fails before after fault → Begins text →
+      EndsEarly (HasNoMemory f Unwritten ((after ≡ before) × Shows f w given Begins)) (Failed before after) (Shows f w given Begins)
+      (replay_fault fault)
+  page-fault before after page.Write same fails begins = (fails, shows begins)
+  page-fault before after page.NoMemory same fails begins =
+      subst (λ (f' : Form). HasNoMemory f' Unwritten ((after ≡ before) × Shows f w given Begins)) (sym same) (inr (fails, shows begins))
+
+  pub page-early : {T : Type 0} (before after : ℕ) (fault : PageFault) (r : Result T ReplayFault) → f ≡ form.Page →
+      IsErrAnd r (λ told. told ≡ replay_fault fault) → Fails before after fault → Begins text →
+      IfErr r (EndsEarly (HasNoMemory f Unwritten ((after ≡ before) × Shows f w given Begins)) (Failed before after) (Shows f w given Begins))
+  page-early before after fault (Ok x) same told fails begins = absurd told
+  page-early before after fault (Err other) same told fails begins =
+      subst (λ (e : ReplayFault).
+      EndsEarly (HasNoMemory f Unwritten ((after ≡ before) × Shows f w given Begins)) (Failed before after) (Shows f w given Begins) e)
+      (sym told) (page-fault before after fault same fails begins)

@@ -5,7 +5,8 @@ pub(super) const TEXT: &[u8] = b"</style>
 <body inert onhashchange=\"page.readLink()\" onkeydown=\"page.key(event)\" onchange=\"page.changeSetting(event)\">
 <header>
 <h1 id=\"journal\">A journal</h1>
-<label>Find <input id=\"find\" type=\"search\" onkeydown=\"if (event.key === 'Enter') page.leaveFind(this.value.trim())\" onchange=\"page.find(this.value.trim())\" placeholder=\"P3, port 2, =17, stalled, step 60\" title=\"The search begins at the chosen step\" autocomplete=\"off\" spellcheck=\"false\"></label>
+<span id=\"part\" title=\"Back to the steps that are told: all of each block of 64 that has one of those asked for\"></span>
+<label>Find <input id=\"find\" type=\"search\" onkeydown=\"if (event.key === 'Enter') page.leaveFind(this.value.trim())\" onchange=\"page.find(this.value.trim())\" placeholder=\"P3, port 2, =17, stalled, step 60\" title=\"The search begins at the chosen step, or at the first one in view\" autocomplete=\"off\" spellcheck=\"false\"></label>
 <span id=\"count\" role=\"status\"></span>
 <button onclick=\"page.keys['<']()\" aria-label=\"the first one found\">&#8676;</button>
 <button onclick=\"page.keys['p']()\" aria-label=\"the one before\">&larr;</button>
@@ -44,7 +45,7 @@ pub(super) const TEXT: &[u8] = b"</style>
 <tr><td>click a bar, <kbd>w</kbd></td><td>go to the step that ended the wait</td></tr>
 <tr><td>click an arrow, <kbd>f</kbd></td><td>follow a value on its way from port to port, with all else paler, or end that: if a process sends the value that it got, before it gets another, it passes that value on</td></tr>
 <tr><td><kbd>g</kbd></td><td>go to the value's other end</td></tr>
-<tr><td><kbd>/</kbd>, <kbd>Enter</kbd></td><td>find, beginning at the chosen step: P3, port 2, =17 (all equal values), stalled (calls), deadlock (the steps that stalled them), cancelled, timed (out), waited, waited 53 (steps), send, step 60, before 60, way 60 (of the value that step 60 moved), or several of them. With first or last: begin there; with before: at the last one found</td></tr>
+<tr><td><kbd>/</kbd>, <kbd>Enter</kbd></td><td>find, beginning at the chosen step, or else at the first one in view: P3, port 2, =17 (all equal values), stalled (calls), deadlock (the steps that stalled them), cancelled, timed (out), waited, waited 53 (steps), waited &gt;20, send, step 60, before 60, way 60 (of the value that step 60 moved), or several of them. With first or last: begin there; with before: at the last one found</td></tr>
 <tr><td><kbd>n</kbd> or <kbd>Enter</kbd>, <kbd>p</kbd>, <kbd>&lt;</kbd> <kbd>&gt;</kbd></td><td>of what is found the next one, the one before, the first and the last</td></tr>
 <tr><td><kbd>Esc</kbd></td><td>end the search, and show the whole: the longest waits, deadlocks, ports, processes</td></tr>
 </table>
@@ -96,7 +97,7 @@ pub(super) const TEXT: &[u8] = b"</style>
 <div id=\"whole\">
 <h2>The whole</h2>
 <p id=\"size\"></p>
-<p id=\"told\"></p>
+<p><span id=\"told\"></span> A value that was sent before them and received behind them has no arrow: its port holds it all along.</p>
 <h3 id=\"deadlocks\"></h3>
 <ul id=\"stalls\"></ul>
 <div id=\"waits\">

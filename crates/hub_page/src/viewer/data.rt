@@ -6,6 +6,7 @@ const BLOCK = 64, MOST_READ = 300, MOST_OWN = 1000, NEVER = 0xffffffff, STILL_WA
 const WORDS = { m: \"make\", s: \"send\", r: \"recv\", \"?\": \"select\", c: \"close\", x: \"cancel\", e: \"exit\" }, ENDS = { s: \"sent\", g: \"got\", d: \"drained\",
     c: \"closed\", D: \"default\", k: \"done\", S: \"stalled\", x: \"cancelled\", m: \"made\", f: \"fault\", t: \"timed out\", w: \"woken\" };  // by the clock, or its own
 const TABLES = { w: \"waited\", a: \"asked\", t: \"troubles\", o: \"open\", s: \"sent\", g: \"got\", m: \"most\" };  // by letters of sketches
+const pairs = (edges, of) => edges.slice(1).map((end, at) => of(edges[at], end, at));
 const numbers = (first, end) => Array.from({ length: Math.max(0, end - first) }, (_, at) => first + at);
 class Step {
     constructor(journal, place, [, pid, letter, more]) { Object.assign(this, { journal, place, pid: Number(pid), letter, more }); }
@@ -15,7 +16,7 @@ class Step {
     get isTrouble() { return this.endsBy(\"Sfc\"); }
     get waits() { return this.end.by > this.place; }
     get waited() { return Math.min(this.end.by, this.journal.steps - 1) - this.place; }
-    share(first, end) { return Math.max(0, Math.min(this.end.by, end) - Math.max(this.place, first)) / (end - first); }
+    shares(edges) { return pairs(edges, ({ step: from }, { step: to }) => Math.max(0, Math.min(this.end.by, to) - Math.max(this.place, from)) / (to - from)); }
     get lane() { return Math.min(this.pid, this.journal.procs); }  // that of processes that there are not is below all others
     get cases() { return this.letter === \"?\" ? this.more.match(/[rs][^rs!]+/g) ?? [] : \"sr\".includes(this.letter) ? [this.letter + this.more] : []; }
     get shown() {  // the case that fired, or the only one of a call that waits: its side, its port and what it sends
@@ -69,7 +70,7 @@ class Journal {
         Object.assign(this, { text, procs, clock, lanes, from, to, first, end, bounds, steps, blocks: bounds.length, read: new Map() });
         const makes = this.placesOf(\";0m\"), last = this.blocks * lanes, gone = this.placesOf(\"e;0k\");
         this.readSketches(makes.length + 1);
-        const rooms = makes.map((place, at) => (this.mostOf(at + 1, 0, steps) ? Number(this.step(place).more) : 0));  // 0 if it never held a value
+        const rooms = makes.map((place, at) => this.mosts(at + 1, [{ at: 0 }, { step: steps }])[0] && Number(this.step(place).more));  // 0 if it held none
         const asks = [...this.asked.subarray(last)].filter((count, lane) => lane < procs || count > 0);  // behind them processes that there are not
         const exits = numbers(0, lanes).map((pid) => gone.find((place) => this.step(place).pid === pid) ?? null);
         const waits = asks.map((_, lane) => this.waited[last + lane] - (this.open[last + lane] !== NEVER));
@@ -97,17 +98,15 @@ class Journal {
     }
     blockAt(place) { return Math.floor(place / BLOCK); }
     endOfBlock(at) { return Math.min(this.steps, (at + 1) * BLOCK); }
-    block(at) {
-        if (this.read.size > MOST_READ) this.read.clear();
 ";
 
-pub(super) const SECOND: &[u8] =
-    b"        return this.read.get(at) ?? this.read.set(at, readBlock(this, at)).get(at);
+pub(super) const SECOND: &[u8] = b"    block(at) {
+        if (this.read.size > MOST_READ) this.read.clear();
+        return this.read.get(at) ?? this.read.set(at, readBlock(this, at)).get(at);
     }
     step(place) { return place >= 0 && place < this.steps ? this.block(this.blockAt(place)).steps[place % BLOCK] : undefined; }
     stepsOf(first, end) { return numbers(first, end).map((place) => this.step(place)); }
-    endOf({ place, lane, pid }) {
-        let at = this.blockAt(place);
+    endOf({ place, lane, pid }, at = this.blockAt(place)) {
         while (at < this.blocks && this.open[(at + 1) * this.lanes + lane] === place) at++;
         const end = at === this.blocks ? STILL_WAITS : this.block(at).ends.get(place), ofClock = pid === this.clock && { x: \"w\", S: \"w\" }[end.letter];
         return { ...end, letter: ofClock || (end.letter === \"x\" && this.step(end.by)?.pid === this.clock ? \"t\" : end.letter) };
@@ -131,8 +130,7 @@ pub(super) const SECOND: &[u8] =
     nameOf(lane) { return lane === this.clock ? \"clock\" : lane < this.procs ? `P${lane}` : \"unknown\"; }
     isIn(place) { return place >= this.first && place < this.end; }
     get told() { return this.end - this.first < this.steps ? \", as far as it is told\" : \"\"; }  // what is said of all steps
-    levelBefore(place, port) {  // what a port holds before a step of the window, or when it ends
-        const at = Math.min(this.blockAt(place), this.blocks - 1), row = at * this.width + port;
+    levelBefore(place, port, at = Math.min(this.blockAt(place), this.blocks - 1), row = at * this.width + port) {  // a step of the window, or its end
         return this.block(at).levels.findLast((one) => one.port === port && one.from < place)?.count ?? this.sent[row] - this.got[row];
     }
     *blocksWith(table, width, column, at, direction, least = 0) {  // in which a number grows, from one on (1) or back (-1)
@@ -155,8 +153,11 @@ pub(super) const SECOND: &[u8] =
             return { ...last[at], ...own, step, offer, other: isKnown ? own.held.find(isOwner)?.pid ?? other : -1 };
         });
     }
-    mostOf(port, first, end) {
-        return numbers(this.blockAt(first), Math.ceil(end / BLOCK)).reduce((most, at) => Math.max(most, this.most[(at + 1) * this.width + port]), 0);
+    mosts(port, edges, { most, width } = this) {  // how many values a port held at most in the blocks between two edges
+        return pairs(edges, ({ at }, { step }, _, highest = 0) => {
+            for (let row = (at + 1) * width + port; at * BLOCK < step; at++, row += width) if (most[row] > highest) highest = most[row];
+            return highest;
+        });
     }
     stepsOfProcess({ place, pid, lane }, way) {  // behind a step (1) or before it (-1), the nearest first; null for each that is not told
         const rows = (at) => numbers(at * BLOCK, this.endOfBlock(at)).filter((at) => (at - place) * way > 0);
@@ -177,10 +178,12 @@ pub(super) const SECOND: &[u8] =
         }
     }
     *allSteps() { for (const at of numbers(0, this.blocks)) yield this.block(at).steps.filter(Boolean); }
-    share(name, lane, first, end) { return (this.before(name, lane, end) - this.before(name, lane, first)) / (end - first); }
-    before(name, lane, step) {  // how many steps a process waited or asked before a step, by the tables
-        const at = Math.min(this.blocks - 1, this.blockAt(step)), part = (step - at * BLOCK) / (this.endOfBlock(at) - at * BLOCK);
-        return this[name][at * this.lanes + lane] * (1 - part) + this[name][(at + 1) * this.lanes + lane] * part;
+    within(any, step = Math.min(any, this.steps), at = Math.min(this.blocks - 1, this.blockAt(step))) {  // its block, and what part of that is before it
+        return { step, at, part: (step - at * BLOCK) / (this.endOfBlock(at) - at * BLOCK) };
+    }
+    shares(table, lane, edges, { lanes } = this) {  // in how many of the steps between two edges a process waited or asked, by the tables
+        const sum = ({ at, part }, row = at * lanes + lane) => table[row] + (table[row + lanes] - table[row]) * part;
+        return pairs(edges, (first, end) => (sum(end) - sum(first)) / (end.step - first.step));
     }
 }
 const UTF_8 = new TextDecoder(\"utf-8\", { ignoreBOM: true }), counted = (count, word) => `${count} ${word}${count === 1 ? \"\" : \"s\"}`;

@@ -39,7 +39,7 @@ class Page {
     }
     choose(place) {  // chooses the step at a place if it is told, or none
         const step = this.journal.step(place ?? NaN);
-        byId(\"none\").textContent = step === null ? `Step ${place + 1} is not told.` : \"\";
+        byId(\"none\").textContent = step || place === null ? \"\" : step === null ? `Step ${place + 1} is not told.` : \"No such step is told.\";
         if (!step && place !== null) return;
         if ((this.chosen = step)) [this.view.reveal(place), tellStep(step, this)];
         [byId(\"step\").hidden, byId(\"whole\").hidden] = [!this.chosen, !!this.chosen];
@@ -55,7 +55,7 @@ class Page {
     }
     async find(words) {  // search, list by list, so that the page stays awake: all steps, or those of the way of a value
         const { journal } = this, [, way] = /^way (\\d+)$/i.exec(words) ?? [], start = journal.step(way - 1)?.sender, found = [];
-        const parts = way ? [] : words.match(/(port|step|before|waited) \\d+|\\S+/gi) ?? [], isAt = (end) => parts.some((part) => end.test(part));
+        const parts = way ? [] : words.match(/(port|step|before|waited) >?\\d+|\\S+/gi) ?? [], isAt = (end) => parts.some((part) => end.test(part));
         const tests = parts.filter((part) => !ENDMOST.includes(part)).map((part) => testOf(part));
         let told = performance.now();
         Object.assign(this, { words, found, marks: new Set() });
@@ -68,27 +68,22 @@ class Page {
             told = performance.now();
         }
         this.marks = new Set(found);
-        this.goFound(isAt(/^(last$|before )/i) ? -1 : 0, isAt(/^(first$|last$|before )/i) ? null : this.chosen);
+        this.goFound(isAt(/^(last$|before )/i) ? -1 : 0, isAt(/^(first$|last$|before )/i) ? null : this.chosen ?? { place: Math.ceil(this.view.first) });
         this.layOut();
     }
     goFound(direction, from = this.chosen) {
         const { found, words } = this, own = found.indexOf(from?.place), behind = found.findIndex((place) => place > (from?.place ?? -1));
         const next = own < 0 ? (behind < 0 ? found.length : behind) - (direction < 0) : own + direction, at = (next + found.length) % found.length;
-        const begin = from && direction === 0 ? `, ${own < 0 && behind < 0 ? \"none \" : \"\"}from step ${from.place + 1} on` : \"\";
+        const begin = from?.place > 0 && direction === 0 ? `, ${own < 0 && behind < 0 ? \"none \" : \"\"}from step ${from.place + 1} on` : \"\";
         byId(\"count\").textContent = found.length ? `${at + 1} of ${found.length}${begin}` : words && \"none\";
         if (found.length || this.chosen) this.choose(found[at] ?? this.chosen.place);
         const nothing = (words[0] === \"=\" ? `No value ${words.slice(1)} moved` : `Nothing is found by ${words}`) + this.journal.told;
-        byId(\"none\").textContent = words && !found.length ? `${nothing}. ${KNOWN}${from ? \" What was chosen stays:\" : \"\"}` : \"\";
-    }
-    async countTies(words, told) {
-        await this.find(byId(\"find\").value = words);
-        if (this.words === words) byId(\"ties\").textContent = `${this.found.length - told} more waited as long as the last`;
-        this.choose(null);
+        byId(\"none\").textContent = words && !found.length ? `${nothing}. ${KNOWN}${this.chosen ? \" What was chosen stays:\" : \"\"}` : \"\";
     }
     endFind() { this.find(byId(\"find\").value = \"\"); }
     get isFollowing() { return /^(=|way \\d+$)/i.test(this.words) && this.marks.has(this.chosen?.place); }  // the chosen step's value
-    writeLink() {  // links: #step=60&find=P3&from=1&to=100
-        const { view: { first, steps }, words: find, chosen } = this, parts = { from: Math.round(first) + 1, to: Math.round(first + steps) };
+    writeLink({ view: { first, steps }, words: find, chosen } = this) {  // links: #step=60&find=P3&from=1&to=100
+        const parts = { from: Math.round(first) + 1, to: Math.round(first + steps) };
         history.replaceState(null, \"\", `#${new URLSearchParams(Object.assign(parts, find && { find }, chosen && { step: chosen.place + 1 }))}`);
     }
     readLink(opening) {

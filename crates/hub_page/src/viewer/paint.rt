@@ -8,7 +8,8 @@ function html(parts, ...values) {  // in which each value is text, unless it is 
     const inside = (value) => (Array.isArray(value) ? value.map(inside).join(\"\") : value?.html ?? escaped(value));
     return { html: String.raw({ raw: parts }, ...values.map(inside)) };
 }
-const put = (texts) => Object.entries(texts).forEach(([id, text]) => Object.assign(byId(id), { innerHTML: html`${text}`.html }));
+const put = (texts) => Object.entries(texts).forEach(([id, text]) => write(byId(id), html`${text}`.html));
+const write = (element, text) => element.written === text || Object.assign(element, { innerHTML: text, written: text });
 function shape(tag, { title, ...more }, text) {
     const signs = Object.entries(more).map(([name, value]) => ` ${name}=\"${escaped(value)}\"`).join(\"\");
     return { html: `<${tag}${signs}>${title ? `<title>${escaped(title)}</title>` : \"\"}${escaped(text)}</${tag}>` };
@@ -22,10 +23,9 @@ class Painter {
         this.begin(canvas, view.width, view.bottom);
         put({ names: this.names(), shapes: isNear && this.shapes() });
         lanes.setAttribute(\"class\", `${this.page.isFollowing ? \"following\" : \"\"} ${isNear ? \"\" : isFar ? \"far counted\" : \"far\"}`);
-        if (isFar) this.paintCounts();
-        else if (!isNear) this.paintShapes();
-        const edges = [\"first\", \"end\", \"steps\"].map((name) => [name, view.x(journal[name] - 0.5)]);
-        for (const [name, dots] of [...edges, [\"bottom\", view.bottom]]) lanes.parentElement.style.setProperty(`--${name}`, `${dots}px`);
+        if (!isNear) this[isFar ? \"paintCounts\" : \"paintShapes\"]();
+        const edges = [\"first\", \"end\", \"steps\"].map((name) => `--${name}: ${view.x(journal[name] - 0.5)}px`).join(\"; \");
+        [lanes.parentElement.style, byId(\"early\").style, byId(\"late\").style] = [`--bottom: ${view.bottom}px`, edges, edges];
         byId(\"window\").style = `left: ${100 * view.first / (journal.steps || 1)}%; width: ${100 * view.steps / (journal.steps || 1)}%`;
     }
     names() {
@@ -76,8 +76,8 @@ class Painter {
     }
     box(step) {
         const { view } = this, { y, size } = view.place.get(step.lane), width = view.boxWidth, small = view.dots < 5 ? \"small\" : \"\";
-        const more = { x: view.x(step.place) - width / 2, y: y - size / 2, \"data-link\": stepLink(step.place) };
-        return { class: `box ${this.signs(step)} ${small}`, width, height: size, ...more };
+        const more = { y: y - size / 2, width, height: size, \"data-link\": stepLink(step.place) };
+        return { class: `box ${this.signs(step)} ${small}`, x: view.x(step.place) - width / 2, ...more };
     }
     label(step) {
         const { view } = this, { y, size } = view.place.get(step.lane), { label, value } = step;
@@ -92,10 +92,10 @@ class Painter {
     }
     begin(canvas, width, height, fine = devicePixelRatio || 1) {
         [canvas.width, canvas.height, canvas.style.height] = [Math.round(width * fine), Math.round(height * fine), height + \"px\"];
-        Object.assign(this, { pen: canvas.getContext(\"2d\"), style: getComputedStyle(canvas), colours: {} });
+        Object.assign(this, { pen: canvas.getContext(\"2d\"), style: getComputedStyle(canvas), colours: {}, fine });
         Object.assign(this.pen, { font: \"11px system-ui, sans-serif\" }).scale(fine, fine);
     }
-    colour(name) { return this.colours[name] ??= this.style.getPropertyValue(\"--\" + name); }
+    colour(name) { return this.colours[name] ??= Object.assign(this.pen, { fillStyle: this.style.getPropertyValue(\"--\" + name) }).fillStyle; }
     fill(name, x, y, width, height) { Object.assign(this.pen, { fillStyle: this.colour(name) }).fillRect(x, y, width, height); }
     paintShapes() {
         const { view } = this, shapes = [...view.levels().map((level) => this.level(level)), ...view.bars().map((call) => this.bar(call)),
@@ -104,26 +104,30 @@ class Painter {
         for (const { class: signs, x, y, width, height } of shapes) this.fill(colourOf(signs), x, y, width, height);
     }
     paintCounts() {  // in columns of dots: waits as a band as high as their share, steps as a thinner one on it, troubles
-        const { view, journal } = this, width = Math.floor(Math.min(view.width, view.x(journal.steps - 0.5)) - LEFT), scale = 1 / view.dots;
 ";
 
 pub(super) const SECOND: &[u8] =
-    b"        const edge = (column) => Math.min(journal.steps, view.first + column * scale);
+    b"        const { view, journal } = this, edges = this.beginColumns(LEFT, Math.min(view.width, view.x(journal.steps - 0.5)), view.first, view.dots);
         const bands = [[\"waited\", \"h1\", 0.8], [\"asked\", \"edge\", 1.2], [\"troubles\", \"trouble\", Infinity]];
-        for (const [name, colour, weight] of bands) for (const [pid, { y, height }] of view.place) {
-            const highest = height - 2, sizeOf = (share) => share && Math.min(1, share * weight) * highest;
-            this.fillColumns(colour, LEFT, width, y, (column) => sizeOf(journal.share(name, pid, edge(column), edge(column + COLUMN))));
-        }
-        for (const [row, port] of view.strips().entries()) {
-            const one = FULL / journal.rooms[port - 1], sizeOf = (column) => one * journal.mostOf(port, edge(column), edge(column + COLUMN));
-            this.fillColumns(hueOf(port), LEFT, width, view.floor(row), sizeOf, 1);
-        }
+        for (const [name, colour, weight] of bands) for (const [pid, { y, height }] of view.place)
+            this.fillColumns(edges, colour, y, journal.shares(journal[name], pid, edges), weight * (height - 2), height - 2);
+        for (const [row, port] of view.strips().entries())
+            this.fillColumns(edges, hueOf(port), view.floor(row), journal.mosts(port, edges), FULL / journal.rooms[port - 1], FULL, 1);
+        this.pen.putImageData(this.image, 0, 0);
     }
-    fillColumns(colour, left, width, y, sizeOf, above = 0.5) {
-        this.pen.fillStyle = this.colour(colour);
-        for (let column = 0; column < width; column += COLUMN) {
-            const size = sizeOf(column);
-            if (size > 0.2) this.pen.fillRect(left + column, y - size * above, COLUMN, size);
+    beginColumns(left, right, first, dots) {  // where their edges are, in pixels of the device, and in the journal
+        const { pen, fine, journal } = this, { width, height } = pen.canvas, count = Math.ceil(Math.floor(right - left) / COLUMN);
+        if (this.image?.width !== width || this.image.height !== height) this.image = pen.createImageData(width, height);
+        this.pixels = new Uint32Array(this.image.data.buffer).fill(0);
+        const edge = (dot) => ({ x: Math.min(width, Math.round((left + dot) * fine)), ...journal.within(first + dot / dots) });
+        return numbers(0, count + 1).map((column) => edge(column * COLUMN));
+    }
+    fillColumns(edges, colour, y, shares, times, most, above = 0.5) {  // pixel by pixel: rectangles take ten times as long
+        const { pixels, fine, image: { width } } = this, pixel = Number(this.colour(colour).replace(/#(..)(..)(..)/, \"0xff$3$2$1\"));
+        for (let column = 0; column < shares.length; column++) {
+            const size = Math.min(most, times * shares[column]), rows = size > 0.2 ? Math.max(1, Math.round(size * fine)) : 0, { x } = edges[column];
+            const first = Math.round(y * fine - rows * above) * width + x, end = first + rows * width, wide = edges[column + 1].x - x;
+            for (let at = first; at < end; at += width) for (let dot = 0; dot < wide; dot++) pixels[at + dot] = pixel;
         }
     }
     paintAxis(canvas) {
@@ -138,10 +142,10 @@ pub(super) const SECOND: &[u8] =
         const x = (step) => Math.floor(step / scale), scale = count / width, isSummed = count > MOST_SHAPES || journal.told;
         const others = numbers(0, journal.procs).filter((lane) => lane !== journal.clock);
         this.begin(canvas, width, 54);
-        const shares = isSummed ? others.map((lane) => (first, end) => journal.share(\"waited\", lane, first, end))
-            : journal.goingOn(0, journal.steps).filter(({ waits, pid }) => waits && pid !== journal.clock).map((one) => (first, end) => one.share(first, end));
-        const waiting = (first, end) => shares.reduce((sum, share) => sum + share(first, end), 0) / others.length;
-        this.fillColumns(\"h1\", 0, width, 48, (column) => 32 * waiting(column * scale, (column + COLUMN) * scale), 1);
+        const edges = this.beginColumns(0, width, 0, 1 / scale), waiting = isSummed ? others.map((lane) => journal.shares(journal.waited, lane, edges))
+            : journal.goingOn(0, journal.steps).filter(({ waits, pid }) => waits && pid !== journal.clock).map((one) => one.shares(edges));
+        this.fillColumns(edges, \"h1\", 48, pairs(edges, (from, to, at) => waiting.reduce((sum, own) => sum + own[at], 0)), 32 / others.length, 32, 1);
+        this.pen.putImageData(this.image, 0, 0);
         for (const place of stalls) this.fill(\"trouble\", x(place), 16, Math.max(2, x(1)), 32);
         for (const column of new Set(found.map(x))) this.fill(\"on\", column, 48, 2, 6);
     }

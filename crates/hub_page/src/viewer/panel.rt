@@ -36,9 +36,8 @@ function movesText(place, { journal, found, words, isFollowing }) {  // those fo
     const near = isFollowing ? found.slice(Math.max(0, at - 20), at + 21).map((one) => journal.step(one)) : [];
     const sends = [...new Set(near.map((one) => one.sender.place))].map((one) => journal.step(one));
     const end = (send) => (send.receiver ? html`got by ${when(send.receiver)}${lay(send)}` : kept(send, \"there\")), isWay = words[0] !== \"=\";
-    const text = (send) => html`port ${send.port}: sent by ${when(send)}, ${end(send)}`;
     const way = `${isWay ? \"The way\" : \"Moves\"} of ${readable(near[0]?.value)}: ${near.length} of ${counted(found.length, \"step\")}${journal.told}`;
-    return { way, moves: items(sends.map((send) => html`<span class=\"${isOwn(send) && \"fired\"}\">${text(send)}</span>`)) };
+    return { way, moves: items(sends.map((one) => html`<span class=\"${isOwn(one) && \"fired\"}\">port ${one.port}: sent by ${when(one)}, ${end(one)}</span>`)) };
 }
 function stallText(stall, journal) {  // a cause, what full ports hold, who waits, with guesses for whom, and who was there last
     const cases = journal.casesOf(stall), calls = stall.calls.map((call) => journal.step(call));
@@ -56,26 +55,26 @@ function stallText(stall, journal) {  // a cause, what full ports hold, who wait
     return { cause, full: items(byPort(({ count }) => count > 0).map(holds)), stalled: items(calls.map(waits)), last: rowsOf(last) };
 }
 function tellWhole(journal, story) {  // of deadlocks the first and the last four
-    const { steps, first, end, procs, stalls, rooms, asks, waits, exits } = journal, left = stalls.length - 5;
+    const { steps, first, end, from, to, procs, stalls, rooms, asks, waits, exits } = journal, left = stalls.length - 5;
     const names = (steps) => [...steps.filter(Boolean).map(({ pid }) => \"P\" + pid), `${steps.filter((one) => !one).length} not told`].join(\", \");
     const stalled = (place) => html`${link(place)} stalls ${names(journal.stallAt(place).calls.map((one) => journal.step(one))).replace(\", 0 not told\", \"\")}`;
     const gap = left > 0 ? [html`and <a href=\"#find=deadlock\">${left} more</a>, then`] : [];
     const longest = [...story.matchAll(/^ *(\\d+) +(P\\d+) .* (\\d+), /gm)], least = longest.at(-1)?.[3];
-    const until = (step) => (step.end.letter ? ender(step) : \"the end\"), ties = longest.filter((one) => !journal.told && one[3] === least).length;
-    const wait = (step, place, pid) => (step ? [called(step, who(step)), until(step)] : [`${pid}, ${whoAt(place)}`]);
+    const wait = (step, place, pid) => (step ? [called(step, who(step)), step.end.letter ? ender(step) : \"the end\"] : [`${pid}, ${whoAt(place)}`]);
     const shownAs = (lane) => html`<select data-process=\"${lane}\" aria-label=\"${lane} shown as\">${{ html: byId(\"forms\").innerHTML }}</select>`;
-    const exit = (lane) => exits[lane] !== null && link(exits[lane]), name = (lane) => journal.nameOf(lane);
+    const exit = (lane) => exits[lane] !== null && link(exits[lane]), back = link(first, `Steps ${first + 1} to ${end}`, `from=${from}&to=${to}`);
     const box = (port) => html`<label><input type=\"checkbox\" data-port=\"${port}\" ${rooms[port - 1] > 0 && \"checked\"}> port ${port}</label> `;
     const boxes = (isHeld) => numbers(1, rooms.length + 1).filter((port) => isHeld === rooms[port - 1] > 0).map(box);
     put({
         size: `${counted(steps, \"step\")} of ${procs} processes on ${counted(rooms.length, \"port\")}`, deadlocks: counted(stalls.length, \"deadlock\"),
         told: journal.told && `Steps ${first + 1} to ${end} are told, and of the others those that bear on them.`,
-        early: `not told: steps 1 to ${first}, but for boxes`, late: `not told: steps ${end + 1} to ${steps}, but for boxes`,
+        part: journal.told && back, early: `not told: steps 1 to ${first}, but for boxes`, late: `not told: steps ${end + 1} to ${steps}, but for boxes`,
         stalls: items([...stalls.slice(0, 1).map(stalled), ...gap, ...stalls.slice(1).slice(-4).map(stalled)]),
         longest: rowsOf(longest.map(([, step, pid, waited]) => [waited, ...wait(journal.step(step - 1), step - 1, pid)])),
-        ties: longest[4] && ties > 0 && html`<button onclick=\"page.countTies('waited ${least}', ${ties})\">How many more waited ${least}?</button>`,
-        held: boxes(true), empty: boxes(false), processes: rowsOf(waits.map((waited, lane) => [name(lane), asks[lane], waited, exit(lane), shownAs(lane)])),
-        end: { html: story.replace(/^ *\\d+ +P.*\\n|, the longest first.*|^ {10}/gm, \"\").replace(/(?<=step )\\d+/g, (step) => link(step - 1, step).html) },
+        ties: longest[4] && html`<a href=\"#find=waited ${least}\">Find all that waited ${least}</a>`,
+        processes: rowsOf(waits.map((waited, lane) => [journal.nameOf(lane), asks[lane], waited, exit(lane), shownAs(lane)])), held: boxes(true),
+        empty: boxes(false), end: { html: story.replace(/^ *\\d+ +P.*\\n|, the longest first.*|^ {10}/gm, \"\").replace(/(?<=step )\\d+/g, (step) =>
+            (journal.step(step - 1) ? link(step - 1, step).html : step)) },
     });
 }
 ";

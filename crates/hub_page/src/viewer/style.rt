@@ -106,7 +106,7 @@ button:hover { background: var(--soft); }
 /* What tells nothing is not shown. */
 #none:empty, #told:empty, #ties:empty, ul:empty, h3:has(+ ul:empty), tr:has(th + td:empty), tr:has(td > ul:empty) { display: none; }
 #stall > h3 { display: block; }
-#stall:has(#stalled:empty), #waits:has(#longest:empty), p:has(> #empty:empty) { display: none; }
+#stall:has(#stalled:empty), #waits:has(#longest:empty), p:has(> :is(#empty, #told):empty) { display: none; }
 #panel .lines tr { border-bottom: 1px solid var(--line); }
 #panel p { margin: 4px 0; }
 #panel ul { margin: 0; padding: 0; list-style: none; }

@@ -31,8 +31,7 @@ class View {
         }
         this.bottom = Math.max(this.height, this.stripTop + strips * STRIP + 8);
     }
-    show(first, steps) {
-        const count = Math.max(1, this.journal.steps);
+    show(first, steps, count = Math.max(1, this.journal.steps)) {
         this.steps = Math.min(count, Math.max((this.width - LEFT) / NEAREST, steps));
         this.first = Math.min(count - this.steps, Math.max(0, first));
         this.changed();
@@ -43,9 +42,8 @@ class View {
         this.show(0, this.steps * factor);
         this.show(step - share * this.steps, this.steps);
     }
-    reveal(step) {  // brings a step into view, so near that boxes have letters
-        const steps = this.steps > MOST_NEAR ? this.width / CLOSE : this.steps, isOff = Math.abs(step - this.first - steps / 2) > steps * 0.42;
-        if (isOff || this.steps > MOST_NEAR) this.show(step + 0.5 - steps / 2, steps);
+    reveal(step, steps = this.steps > MOST_NEAR ? this.width / CLOSE : this.steps) {  // brings it into view, so near that boxes have letters
+        if (this.steps > MOST_NEAR || Math.abs(step - this.first - steps / 2) > steps * 0.42) this.show(step + 0.5 - steps / 2, steps);
     }
     boxes() { return this.journal.stepsOf(...this.range()).filter((step) => step && this.isShown(step)); }
     bars() { return this.journal.goingOn(...this.range()).filter((call) => call.waits && this.isShown(call)); }
@@ -63,12 +61,12 @@ class View {
     }
 }
 function testOf(word) {  // of what is typed in Find: whether a step is meant
-    const [, kind, digits, name = kind?.trim()] = /^(?:(P|step |before |waited |port )(\\d+)|(deadlock)s?)$/i.exec(word) ?? [];
+    const [, kind, digits, name = kind?.trim()] = /^(?:(P|step |before |waited >?|port )(\\d+)|(deadlock)s?)$/i.exec(word) ?? [];
     const number = Number(digits), text = word.slice(1), end = Object.keys(ENDS).find((letter) => ENDS[letter] === word);
     if (word[0] === \"=\") return ({ value }) => value === text || value?.[0] === \"#\" && readable(value) === `\\u201c${text}\\u201d`;
     const numbered = { p: ({ pid }) => pid === number, step: ({ place }) => place === number - 1, before: ({ place }) => place < number - 1,
         port: ({ ports }) => ports.includes(number), deadlock: ({ journal, place }) => journal.stallAt(place)?.calls[0] >= 0,
-        waited: (step) => step.waits && step.waited === number };
+        waited: (step) => step.waits && step.waited === number, \"waited >\": (step) => step.waits && step.waited > number };
     return numbered[name?.toLowerCase()] ?? (end ? (step) => step.end.letter === end : (step) => step.title.includes(word));
 }
 ";

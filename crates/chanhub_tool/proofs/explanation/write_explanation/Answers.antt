@@ -1,4 +1,4 @@
-use Rattle.std.proofs.Common.{sym, arith}
+use Rattle.std.proofs.Common.{arith}
 use Rattle.chanhub_tool.proofs.Sizes.{few-entries}
 use Rattle.chanhub_tool.proofs.explanation.write_explanation.Goals as goal
 

@@ -1,5 +1,4 @@
-use Rattle.std.proofs.Common.{◌≡◌, List, ℕ, refl}
-use Rattle.std.specs.Io.KnownBytes.{Appends}
+use Rattle.std.proofs.Common.{◌≡◌, refl}
 use Rattle.hub_replay.specs.Devices.{AppendsBeginning, Failed}
 use Rattle.hub_story.specs.Told.{told}
 use Rattle.hub_page.specs.Page.{page_text}

@@ -1,5 +1,1 @@
-pub mod Fitting
 pub mod Texts
-mod Values
-mod HubValues
-pub mod Asked

@@ -5,34 +5,20 @@
 //! the caller's.
 #![tactic(auto)]
 
-mod asking;
-mod cutting;
-mod following;
-mod hold;
-mod loose;
-mod opening;
-mod reading;
-mod session;
-mod stepping;
-mod structs;
-mod telling;
-
 ghost use Rattle.std.specs.Prelude.{◌≡◌, None, Some};
 ghost use Rattle.hub_base.specs.Notation.{cancel, close, exit, make, recv};
-ghost use Rattle.hub_c.specs.Cuts.{Cuts, LetsGo};
-ghost use Rattle.hub_c.specs.Looks.{Looks, ReadsPiece, before_of, entries_of, next_bits, present_of, waiting_of};
-ghost use Rattle.hub_c.specs.Opens.{OpensEndless, OpensFollowing, OpensSession};
-ghost use Rattle.hub_c.specs.Steps.{Steps, Takes};
-ghost use Rattle.hub_c.specs.Structs.{call_of, is_true, send_of};
+ghost use Rattle.hub_session.specs.Cuts.{Cuts, LetsGo};
+ghost use Rattle.hub_session.specs.Looks.{Looks, ReadsPiece, before_of, entries_of, next_bits, present_of, waiting_of};
+ghost use Rattle.hub_session.specs.Opens.{OpensEndless, OpensFollowing, OpensSession};
+ghost use Rattle.hub_session.specs.Steps.{Steps, Takes};
+ghost use Rattle.hub_session.specs.Structs.{call_of, is_true, send_of};
 
-use asking::is_true;
-use hold::HubC;
 use hub_base::{Pid, Port, Step};
-use opening::{open_box, open_endless_box, open_following_box};
-use reading::no_piece;
+use hub_session::{
+    CaseC, CountsC, CutC, FollowC, HubC, PieceC, ToldC, ValueC, counts_told, is_true, no_piece,
+    open_box, open_endless_box, open_following_box, tell_bad_call,
+};
 use std::alloc::Global;
-use structs::{CaseC, CountsC, CutC, FollowC, PieceC, ToldC, ValueC};
-use telling::{counts_told, tell_bad_call};
 
 /// Opens a hub of this edition, 1 or 2, of 1 to `MOST_PROCS` processes, whose journal may hold 1 to `MOST_STEPS` steps, as
 /// `limit` says. Answers 0, or what refuses it: 1 the processes, 2 the limit, 3 memory, 4 the edition. A hub that was held
@@ -118,7 +104,7 @@ pub extern "C" fn hub_c_open_following(
 pub extern "C" fn hub_c_end(alloc: Global, hub: &mut HubC)
     ensures { hub.new.session ≡ None }
 {
-    hub.end(alloc);
+    drop(hub.take_out(alloc));
 }
 
 /// Makes a port of this capacity.

@@ -1,0 +1,105 @@
+-- Worked rows: what structs say, what is told, and the pieces of a text. The numbers are those of capi/chanhub.h.
+use Rattle.std.specs.Prelude.{◌≡◌, true, false, [], ◌∷◌, replicate, None, Some, Ok, Err, refl}
+use Rattle.hub_base.specs.declared.event.Outcome.TheVariants.{Drained}
+use Rattle.hub_base.specs.declared.fault.Fault.TheVariants.{Busy}
+use Rattle.hub_base.specs.declared.head.Edition.TheVariants.{Two}
+use Rattle.hub_base.specs.Journal.{JournalView}
+use Rattle.hub_base.specs.Lines.{line}
+use Rattle.hub_base.specs.Notation.{case, exit, faulted, made, make, procs_two, r, s, select, told}
+use Rattle.hub_base.specs.Reading.{head_lines}
+use Rattle.hub_base.specs.declared.event.What.TheVariants as what
+use Rattle.hub_session.specs.declared.structs.CaseC.{CaseC}
+use Rattle.hub_session.specs.declared.structs.ToldC.{ToldC}
+use Rattle.hub_session.specs.declared.structs.ValueC.{ValueC}
+use Rattle.hub_session.specs.Opens.{edition_of}
+use Rattle.hub_session.specs.Pieces.{piece_in, piece_told, put_piece}
+use Rattle.hub_session.specs.Structs.{call_of, send_of}
+use Rattle.hub_session.specs.Tells.{answer_told, bad_call, bits_of, came_told}
+
+-- ---- what structs say
+abbrev zeros : ValueC
+zeros = record { number = 0; is_bytes = 0; length = 0; bytes = replicate 32 0 }
+
+abbrev seven : ValueC
+seven = record zeros { number = 7 }
+
+-- more bytes than a value has
+abbrev long : ValueC
+long = record zeros { is_bytes = 1; length = 33 }
+
+-- any number but 0 is true
+abbrev sends_seven : CaseC
+sends_seven = record { sends = 2; port = 1; value = seven }
+
+-- what a receive would send is not looked at
+abbrev receives : CaseC
+receives = record { sends = 0; port = 3; value = long }
+
+pub call_row : call_of 5 (sends_seven ∷ receives ∷ []) 1 9 ≡ Some (select 5 9 (s 1 7 ∷ r 3 ∷ []) true)
+call_row = refl
+
+pub long_row : send_of 5 1 long ≡ None
+long_row = refl
+
+pub many_row : call_of 5 (replicate 17 receives) 0 0 ≡ None
+many_row = refl
+
+pub edition_row : edition_of 2 ≡ Some Two
+edition_row = refl
+
+pub no_edition_row : edition_of 3 ≡ None
+no_edition_row = refl
+
+-- ---- what is told
+abbrev nothing : ToldC
+nothing = record { what = 0; fault = 0; index = 0; port = 0; value = zeros; ended = 0; chapter = 0 }
+
+pub made_row : came_told (Ok (made 0 3)) 0 false ≡ record nothing { what = 1; port = 3 }
+made_row = refl
+
+pub drained_row : came_told (Ok (case 0 2 Drained)) 0 false ≡ record nothing { what = 4; index = 2 }
+drained_row = refl
+
+-- processes 0 and 5 are woken, and a chapter waits to be read
+pub ended_row : came_told (Ok (told 1 what.Done)) (bits_of (record { 0 = 5 } ∷ record { 0 = 0 } ∷ [])) true
+    ≡ record nothing { what = 7; ended = 33; chapter = 1 }
+ended_row = refl
+
+-- a refused step, and a fault that the hub answers
+pub refused_row : came_told (Err Busy) 32 true ≡ record nothing { what = 10; fault = 3; chapter = 1 }
+refused_row = refl
+
+pub fault_row : answer_told (Some (faulted 0 Busy)) ≡ record nothing { what = 10; fault = 3 }
+fault_row = refl
+
+pub bad_call_row : bad_call ≡ record nothing { what = 10; fault = 13 }
+bad_call_row = refl
+
+pub none_waits_row : answer_told None ≡ nothing
+none_waits_row = refl
+
+-- ---- texts
+abbrev ended : JournalView
+ended = record { head = procs_two 1; entries = make 0 2 ∷ exit 0 ∷ [] }
+
+pub head_row : piece_in (Some ended) 0 ≡ Some (head_lines (procs_two 1))
+head_row = refl
+
+pub line_row : piece_in (Some ended) 2 ≡ Some (line (exit 0))
+line_row = refl
+
+pub behind_row : piece_in (Some ended) 3 ≡ None
+behind_row = refl
+
+-- the end, a piece that is written, and one that wants more room are three answers
+pub end_row : piece_told None 9 ≡ record { what = 0; length = 0 }
+end_row = refl
+
+pub written_row : piece_told (Some (7 ∷ 8 ∷ [])) 2 ≡ record { what = 1; length = 2 }
+written_row = refl
+
+pub no_room_row : piece_told (Some (7 ∷ 8 ∷ [])) 1 ≡ record { what = 2; length = 2 }
+no_room_row = refl
+
+pub put_row : put_piece (Some (7 ∷ 8 ∷ [])) (1 ∷ 2 ∷ 3 ∷ []) ≡ 7 ∷ 8 ∷ 3 ∷ []
+put_row = refl

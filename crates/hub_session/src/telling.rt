@@ -1,0 +1,220 @@
+//! What is told to C.
+
+ghost use Rattle.std.specs.Prelude.{◌≡◌, ◌≤◌, ℕ, Err, None, Ok, length};
+ghost use Rattle.hub_base.specs.Content.{padded};
+ghost use Rattle.hub_base.specs.Content.Content.{Num};
+ghost use Rattle.hub_base.specs.Value.{content, number_in};
+ghost use Rattle.hub_session.specs.Structs.{told_as, value_told};
+ghost use Rattle.hub_session.specs.Tells.{bad_call, bit_of, bits_of, came_told, counts_told, diverged_told, fault_told, only_told, outcome_told, what_told};
+
+use crate::structs::{
+    BAD_CALL, CANCELLED, CLOSED, CountsC, DEFAULT, DIVERGED, DONE, DRAINED, FAULT, GOT, MADE,
+    PARKED, SENT, STALLED, ToldC, ValueC,
+};
+use hub_base::{Event, Fault, MOST_PROCS, MOST_VALUE_BYTES, Outcome, Pid, Value, What};
+use hub_cut::Totals;
+
+/// Says a number.
+#[inline(always)]
+fn say_number(number: u64, said: &mut ValueC)
+    ensures { said.new ≡ told_as (Num number) }
+{
+    said.number = number;
+    said.is_bytes = 0;
+    said.length = 0;
+    said.bytes = [0; MOST_VALUE_BYTES];
+}
+
+/// These bytes, with zeros behind them.
+fn padded(bytes: &[u8]) -> [u8; MOST_VALUE_BYTES]
+    requires { length bytes.now ≤ MOST_VALUE_BYTES }
+    ensures { result ≡ padded bytes.now }
+{
+    // Most bytes that are sent fill their places, and are then copied without a loop.
+    if let Ok(places) = <[u8; MOST_VALUE_BYTES]>::try_from(bytes) {
+        return places;
+    }
+    let mut places = [0; MOST_VALUE_BYTES];
+    places[..bytes.len()].copy_from_slice(bytes);
+    places
+}
+
+/// Says a value that is bytes.
+#[inline(never)]
+fn say_bytes(value: &Value, said: &mut ValueC)
+    requires { number_in (content value.now) ≡ None }
+    ensures { said.new ≡ value_told value.now }
+{
+    let bytes = value.as_bytes();
+    said.number = 0;
+    said.is_bytes = 1;
+    said.length = bytes.len() as u8;
+    said.bytes = padded(bytes);
+}
+
+/// Says a value.
+#[inline(always)]
+fn say_value(value: &Value, said: &mut ValueC)
+    ensures { said.new ≡ value_told value.now }
+{
+    match value.as_num() {
+        Some(number) => say_number(number, said),
+        None => say_bytes(value, said),
+    }
+}
+
+/// Tells this number, and nothing with it.
+#[inline(always)]
+fn tell_only(what: u8, told: &mut ToldC)
+    ensures { told.new ≡ only_told what }
+{
+    told.what = what;
+    told.fault = 0;
+    told.index = 0;
+    told.port = 0;
+    say_number(0, &mut told.value);
+    told.ended = 0;
+    told.chapter = 0;
+}
+
+/// Tells a fault.
+fn tell_fault(fault: u8, told: &mut ToldC)
+    ensures { told.new ≡ fault_told fault }
+{
+    tell_only(FAULT, told);
+    told.fault = fault;
+}
+
+/// Tells that what C asks for is not asked of a hub, or not of one of its edition.
+pub fn tell_bad_call(told: &mut ToldC)
+    ensures { told.new ≡ bad_call }
+{
+    tell_fault(BAD_CALL, told);
+}
+
+/// Tells the number of the step at which the hub diverged from the journal that it follows.
+pub(crate) fn tell_diverged(step: u32, told: &mut ToldC)
+    ensures { told.new ≡ diverged_told step }
+{
+    tell_fault(DIVERGED, told);
+    told.value.number = step.into();
+}
+
+/// Tells that no answer waits, or that a step's turn has not come.
+pub(crate) fn tell_nothing(told: &mut ToldC)
+    ensures { told.new ≡ only_told 0 }
+{
+    tell_only(0, told);
+}
+
+/// The number of how a communication ended.
+#[inline(always)]
+fn number_of_outcome(outcome: &Outcome) -> u8
+    ensures { (index : ℕ) → result ≡ (outcome_told index outcome.now).what }
+{
+    match outcome {
+        Outcome::Sent => SENT,
+        Outcome::Got(_) => GOT,
+        Outcome::Drained => DRAINED,
+        Outcome::Closed => CLOSED,
+    }
+}
+
+/// The number of what is told.
+#[inline(always)]
+fn number_of(what: &What) -> u8
+    ensures { result ≡ (what_told what.now).what }
+{
+    match what {
+        What::Made(_) => MADE,
+        What::Fired { case: _, outcome } => number_of_outcome(outcome),
+        What::Default => DEFAULT,
+        What::Done => DONE,
+        What::Parked => PARKED,
+        What::Stalled => STALLED,
+        What::Fault(_) => FAULT,
+        What::Cancelled => CANCELLED,
+    }
+}
+
+/// Tells what a process is told.
+pub(crate) fn tell_what(what: &What, told: &mut ToldC)
+    ensures { told.new ≡ what_told what.now }
+{
+    tell_only(number_of(what), told);
+    match what {
+        What::Made(port) => told.port = port.0,
+        What::Fired { case, outcome } => {
+            told.index = *case;
+            if let Outcome::Got(value) = outcome {
+                say_value(value, &mut told.value);
+            }
+        }
+        What::Fault(fault) => told.fault = fault.number(),
+        _ => (),
+    }
+}
+
+/// The bit of a process.
+#[inline(always)]
+pub(crate) fn bit_of(pid: Pid) -> u64
+    ensures { result ≡ bit_of pid }
+{
+    if usize::from(pid.0) < MOST_PROCS {
+        1 << pid.0
+    } else {
+        0
+    }
+}
+
+/// The bits of these processes.
+pub(crate) fn bits_of(pids: &[Pid]) -> u64
+    ensures { result ≡ bits_of pids.now }
+{
+    let mut bits = 0;
+    for pid in pids {
+        bits |= bit_of(*pid);
+    }
+    bits
+}
+
+/// Tells the answer of a step that was made, whose calls it ended, and whether a chapter waits.
+#[inline(always)]
+pub(crate) fn tell_made(answer: &Event, ended: u64, chapter: bool, told: &mut ToldC)
+    ensures { told.new ≡ came_told (Ok answer.now) ended chapter }
+{
+    tell_what(&answer.what, told);
+    told.ended = ended;
+    told.chapter = chapter.into();
+}
+
+/// Tells the fault that refused a step, and whether a chapter waits.
+#[inline(always)]
+pub(crate) fn tell_refused(fault: Fault, chapter: bool, told: &mut ToldC)
+    ensures { told.new ≡ came_told (Err fault) 0 chapter }
+{
+    tell_fault(fault.number(), told);
+    told.chapter = chapter.into();
+}
+
+/// What a look shows: all is 0 where there is no such port.
+pub fn counts_told(look: Option<Totals>) -> CountsC
+    ensures { result ≡ counts_told look }
+{
+    match look {
+        Some(look) => CountsC {
+            made: true,
+            closed: look.closed,
+            cap: look.cap,
+            sent: look.sent,
+            received: look.received,
+        },
+        None => CountsC {
+            made: false,
+            closed: false,
+            cap: 0,
+            sent: 0,
+            received: 0,
+        },
+    }
+}

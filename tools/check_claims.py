@@ -31,7 +31,7 @@ ROWS = re.compile('^' + re.escape(HEADING) + '((?:.+\n)+)', re.M)
 MOST_WORDS = 75
 # A public call: the labels of its clauses, the words of its contract, and the file that it stands in.
 Call = namedtuple('Call', 'labels words path')
-CITED = re.compile(r'(?:(base|text|laws|chapters|chain|core|live|replay|serve|words|report|scenario|story_text|story|picture|c) )?`([A-Z][\w/]*)`: ((?:`\w+`(?:, )?)+)')
+CITED = re.compile(r'(?:(base|text|laws|chapters|chain|core|live|replay|serve|words|report|scenario|session|story_text|story|picture) )?`([A-Z][\w/]*)`: ((?:`\w+`(?:, )?)+)')
 
 
 def read(*parts):

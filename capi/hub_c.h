@@ -1,4 +1,5 @@
-/* hub_c.h: what the proved library exports, and the structs that it shares with C: crates/hub_c/src/lib.rt and structs.rt.
+/* hub_c.h: what the proved library exports, crates/hub_c/src/lib.rt, and the structs that it shares with C,
+ * crates/hub_session/src/structs.rt.
  *
  * A struct hub of zeros is not open. Once it is open it owns the hub, so it is never copied, and its members are left alone. The calls on
  * one hub are ordered by a lock. Whatever else is passed, the answers are proved, if the pointers point to what they say and what is
@@ -62,7 +63,7 @@ reader hub_c_present, hub_c_before, hub_c_waiting;
 struct cut hub_c_cut(struct hub *hub);
 bool hub_c_let_go(struct hub *hub);
 
-/* The layouts that crates/hub_c has. */
+/* The layouts that crates/hub_session has. */
 _Static_assert(sizeof(struct hub) == 16 && sizeof(struct piece) == 16 && sizeof(struct cut) == 2 && sizeof(struct followed) == 8, "");
 _Static_assert(sizeof(chanhub_value) == 48 && offsetof(chanhub_value, is_bytes) == 8 && offsetof(chanhub_value, bytes) == 10, "");
 _Static_assert(sizeof(chanhub_case) == 56 && offsetof(chanhub_case, port) == 2 && offsetof(chanhub_case, value) == 8, "");

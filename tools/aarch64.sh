@@ -1,8 +1,8 @@
 #!/bin/sh
 # aarch64.sh [FOLDER]: builds the C library for aarch64 Linux into FOLDER (capi/out/aarch64 if not said), and runs tests of it under
 # qemu-user; rigs are judged by the program that tools/build.py builds for this machine. It wants aarch64-linux-gnu-gcc and qemu-aarch64:
-# Debian's packages gcc-aarch64-linux-gnu, libc6-dev-arm64-cross and qemu-user. hub_c is proved once more, for that machine, which takes
-# some minutes: so `./test` does not run this.
+# Debian's packages gcc-aarch64-linux-gnu, libc6-dev-arm64-cross and qemu-user. hub_c is proved once more, for that machine, and not what
+# it stands on. `./test` does not run this.
 # The last line counts: 'N passed, M failed'.
 set -u
 root=$(cd "$(dirname "$0")/.." && pwd)

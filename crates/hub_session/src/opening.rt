@@ -12,13 +12,24 @@ use hub_chain::ChainFault;
 use hub_core::OpenFault;
 use hub_cut::MOST_KEEP;
 use hub_follow::AfterDivergence;
-use std::alloc::Global;
+use std::alloc::{AllocError, Global};
 
 /// A value that may be used by one thread and then by another.
 fn crossing<T: Send>(value: T) -> T
     ensures { result ≡ value }
 {
     value
+}
+
+/// It on the heap. That all within it may be used by one thread and then by another takes a proof half a minute, so it is shown
+/// here alone.
+fn boxed(alloc: Global, session: Session) -> Result<Box<Session>, AllocError>
+    ensures { IfOk result (λ b. b.value ≡ session) }
+{
+    match Box::new(alloc, session) {
+        Ok(place) => Ok(crossing(place)),
+        Err(_refused) => Err(AllocError),
+    }
 }
 
 fn edition_of(number: u8) -> Option<Edition>
@@ -91,9 +102,9 @@ pub fn open_box(alloc: Global, edition: u8, procs: u8, limit: u32) -> Result<Box
     ensures err { IfErr result (λ number. IsRefusedSo edition procs limit number) }
 {
     let session = open_session(alloc, edition, procs, limit)?;
-    match Box::new(alloc, session) {
-        Ok(place) => Ok(crossing(place)),
-        Err(_refused) => Err(REFUSED_MEMORY),
+    match boxed(alloc, session) {
+        Ok(place) => Ok(place),
+        Err(AllocError) => Err(REFUSED_MEMORY),
     }
 }
 
@@ -112,9 +123,9 @@ pub fn open_endless_box(
     ensures err { IfErr result (λ number. IsRefusedEndless edition procs keep number) }
 {
     let session = open_endless_session(alloc, edition, procs, keep, hands_out)?;
-    match Box::new(alloc, session) {
-        Ok(place) => Ok(crossing(place)),
-        Err(_refused) => Err(REFUSED_MEMORY),
+    match boxed(alloc, session) {
+        Ok(place) => Ok(place),
+        Err(AllocError) => Err(REFUSED_MEMORY),
     }
 }
 
@@ -172,8 +183,8 @@ pub fn open_following_box(
     ensures err { IfErr result (λ told. NotFollowed text.now told) }
 {
     let session = open_following_session(alloc, text, goes_on)?;
-    match Box::new(alloc, session) {
-        Ok(place) => Ok(crossing(place)),
-        Err(_refused) => Err(follow_refused(ChainFault::NoMemory)),
+    match boxed(alloc, session) {
+        Ok(place) => Ok(place),
+        Err(AllocError) => Err(follow_refused(ChainFault::NoMemory)),
     }
 }

@@ -60,22 +60,38 @@ Status 0: done. 1: a device or memory failed. 2: a malformed journal or scenario
 or bad arguments. Standard error says which. 3: the chapters are no chain. 4: some run of the scenario stalls. 5: it has\n\
 too many states.";
 
+/// Adds the first commands. They are added some at a time, since the proof of a function takes ever longer the
+/// more errors it may return with commands in its hands.
+fn with_story_to_trace<'a>(
+    alloc: Global,
+    all: clap::Command<'a>,
+) -> Result<clap::Command<'a>, AllocError> {
+    all.subcommand(story::grammar(alloc)?)?
+        .subcommand(picture::grammar(alloc)?)?
+        .subcommand(mermaid::grammar(alloc)?)?
+        .subcommand(trace::grammar(alloc)?)
+}
+
+/// Adds the last.
+fn with_page_to_explore<'a>(
+    alloc: Global,
+    all: clap::Command<'a>,
+) -> Result<clap::Command<'a>, AllocError> {
+    all.subcommand(page::grammar(alloc)?)?
+        .subcommand(serve::grammar(alloc))?
+        .subcommand(chain::grammar(alloc)?)?
+        .subcommand(explore::grammar(alloc)?)
+}
+
 /// All commands, in `clap`'s words.
 pub(crate) fn grammar<'a>(alloc: Global) -> Result<clap::Command<'a>, AllocError> {
-    clap::Command::new(alloc, NAME)
+    let named = clap::Command::new(alloc, NAME)
         .bin_name(NAME)?
         .version(VERSION)
         .about(ABOUT)
         .after_help(STATUSES)
-        .subcommand_required(true)
-        .subcommand(story::grammar(alloc)?)?
-        .subcommand(picture::grammar(alloc)?)?
-        .subcommand(mermaid::grammar(alloc)?)?
-        .subcommand(trace::grammar(alloc)?)?
-        .subcommand(page::grammar(alloc)?)?
-        .subcommand(serve::grammar(alloc))?
-        .subcommand(chain::grammar(alloc)?)?
-        .subcommand(explore::grammar(alloc)?)
+        .subcommand_required(true);
+    with_page_to_explore(alloc, with_story_to_trace(alloc, named)?)
 }
 
 /// The command that `clap` found.

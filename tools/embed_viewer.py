@@ -41,7 +41,7 @@ def source_of(name):
     parts = parts_of((ROOT / "viewer" / name).read_text(encoding="ascii"))
     names = ["TEXT"] if len(parts) == 1 else NAMES[: len(parts)]
     assert len(names) == len(parts), f"{name} is too long"
-    constants = (constant(f"pub(super) const {const}: &[u8] =", f'b"{literal(part)}";\n') for const, part in zip(names, parts))
+    constants = (constant(f"pub(super) const {const}: &str =", f'"{literal(part)}";\n') for const, part in zip(names, parts))
     return f"//! `viewer/{name}`, as `tools/embed_viewer.py` writes it.\n\n" + "\n".join(constants)
 
 

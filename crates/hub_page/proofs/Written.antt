@@ -1,12 +1,11 @@
 -- Texts that are written one after the other.
 use Rattle.std.proofs.Common.{◌≡◌, ◌∙◌, ◌<◌, ◌≤◌, ◌+◌, ℕ, List, [], ◌++◌, length, drop, get_or, ap, refl, sym}
-use Rattle.std.proofs.Common.{append_assoc, append-nil, add-one, Bor, Option, Result, Ok, Err, OnErr, subst}
+use Rattle.std.proofs.Common.{append_assoc, append-nil, add-one, Option, Result, Ok, Err, OnErr, subst}
 use Rattle.std.proofs.lemmas.List.{drop_all}
 use Rattle.std.proofs.Math.Seq.{drop-cons}
 use Rattle.std.specs.Io.KnownBytes.{Appends}
 use Rattle.std.proofs.KnownBytes.{Appends-nil, Appends-trans}
 use Rattle.hub_replay.specs.Devices.{AppendsBeginning}
-use Rattle.hub_replay.specs.FaultLines as frame
 use Rattle.hub_story_text.specs.Packed.{joined}
 
 -- ---- the blocks of a packed text
@@ -24,19 +23,6 @@ block-written blocks i d block written is below split =
 pub all-written : (blocks : List (List ℕ)) (i : ℕ) (written : List ℕ) → length blocks ≤ i → joined blocks ≡ written ++ joined (drop i blocks)
     → joined blocks ≡ written
 all-written blocks i written past split = split ∙ ap (λ l. written ++ joined l) (drop_all i blocks past) ∙ append-nil written
-
--- ---- texts of the frame
-module _ (texts : List (Bor (List ℕ))) (i : ℕ) (d : Bor (List ℕ)) (text : List ℕ) (at : text ≡ (get_or texts i d).now) (below : i < length texts) where
-  pub text-there : frame.joined (drop i texts) ≡ text ++ frame.joined (drop (i + 1) texts)
-  text-there =
-      ap frame.joined (drop-cons texts i d below) ∙ ap (λ n. (get_or texts i d).now ++ frame.joined (drop n texts)) (sym (add-one i))
-      ∙ ap (λ l. l ++ frame.joined (drop (i + 1) texts)) (sym at)
-
-  -- one text more was written
-  pub text-written : (written : List ℕ) → frame.joined texts ≡ written ++ frame.joined (drop i texts) →
-      frame.joined texts ≡ (written ++ text) ++ frame.joined (drop (i + 1) texts)
-  text-written written split =
-      split ∙ ap (λ l. written ++ l) text-there ∙ sym (append_assoc written text (frame.joined (drop (i + 1) texts)))
 
 -- ---- what was written
 -- one text more was written

@@ -17,8 +17,7 @@ mod story;
 mod style;
 mod view;
 
-use crate::writing::write_texts;
-use hub_replay::{Sink, WriteFailed, write_whole};
+use hub_replay::{Sink, WriteFailed, write_pieces, write_whole};
 
 /// Writes what stands before the data.
 pub(crate) fn write_before<W: Sink>(output: &mut W) -> Result<(), WriteFailed>
@@ -27,7 +26,7 @@ pub(crate) fn write_before<W: Sink>(output: &mut W) -> Result<(), WriteFailed>
     ensures err { OnErr result (Failed (W.failures output.old) (W.failures output.new)) }
     ensures ok { OnOk result (W.failures output.new ≡ W.failures output.old) }
 {
-    write_texts(output, &[head::TEXT, style::TEXT, body::TEXT])
+    write_pieces(output, &[head::TEXT, style::TEXT, body::TEXT])
 }
 
 /// Writes what stands between the data and the end of the story.
@@ -37,7 +36,7 @@ pub(crate) fn write_between<W: Sink>(output: &mut W) -> Result<(), WriteFailed>
     ensures err { OnErr result (Failed (W.failures output.old) (W.failures output.new)) }
     ensures ok { OnOk result (W.failures output.new ≡ W.failures output.old) }
 {
-    write_whole(output, story::TEXT)
+    write_whole(output, story::TEXT.as_bytes())
 }
 
 /// Writes what stands behind the end of the story.
@@ -47,7 +46,7 @@ pub(crate) fn write_after<W: Sink>(output: &mut W) -> Result<(), WriteFailed>
     ensures err { OnErr result (Failed (W.failures output.old) (W.failures output.new)) }
     ensures ok { OnOk result (W.failures output.new ≡ W.failures output.old) }
 {
-    write_texts(
+    write_pieces(
         output,
         &[
             scripts::TEXT,

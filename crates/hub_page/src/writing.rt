@@ -3,7 +3,6 @@
 ghost use Rattle.std.specs.Prelude.{◌≡◌, ◌≤◌, vec_capacity, IfOk, OnErr, OnOk};
 ghost use Rattle.std.specs.Io.KnownBytes.{Appends};
 ghost use Rattle.hub_replay.specs.Devices.{AppendsBeginning, Failed};
-ghost use Rattle.hub_replay.specs.FaultLines.{joined};
 
 use hub_base::NoMemory;
 use hub_replay::{Sink, WriteFailed, write_whole};
@@ -36,18 +35,4 @@ pub fn write_text<W: Sink>(
         write_whole(output, bytes)?;
     }
     write_whole(output, rest)
-}
-
-/// Writes these texts, one behind the other, and stops at the first write that fails.
-pub(crate) fn write_texts<W: Sink>(output: &mut W, texts: &[&[u8]]) -> Result<(), WriteFailed>
-    ensures whole { OnOk result (Appends (W.contents output.old) (W.contents output.new) (joined texts.now)) }
-    ensures beginning { OnErr result
-        (AppendsBeginning (W.contents output.old) (W.contents output.new) (joined texts.now)) }
-    ensures err { OnErr result (Failed (W.failures output.old) (W.failures output.new)) }
-    ensures ok { OnOk result (W.failures output.new ≡ W.failures output.old) }
-{
-    for text in texts {
-        write_whole(output, text)?;
-    }
-    Ok(())
 }

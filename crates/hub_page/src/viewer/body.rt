@@ -1,6 +1,6 @@
 //! `viewer/body.html`, as `tools/embed_viewer.py` writes it.
 
-pub(super) const TEXT: &[u8] = b"</style>
+pub(super) const TEXT: &str = "</style>
 </head>
 <body inert onhashchange=\"page.readLink()\" onkeydown=\"page.key(event)\" onchange=\"page.changeSetting(event)\">
 <header>

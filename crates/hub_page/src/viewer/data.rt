@@ -1,7 +1,7 @@
 //! `viewer/data.js`, as `tools/embed_viewer.py` writes it.
 
-pub(super) const FIRST: &[u8] =
-    b"// Reads the data of the page, as README.md defines them. Steps are counted from 0 here, and from 1 in what is shown. One that is not told is null.
+pub(super) const FIRST: &str =
+    "// Reads the data of the page, as README.md defines them. Steps are counted from 0 here, and from 1 in what is shown. One that is not told is null.
 const BLOCK = 64, MOST_READ = 300, MOST_OWN = 1000, NEVER = 0xffffffff, STILL_WAITS = { by: Infinity, letter: \"\", number: 0 };
 const WORDS = { m: \"make\", s: \"send\", r: \"recv\", \"?\": \"select\", c: \"close\", x: \"cancel\", e: \"exit\" }, ENDS = { s: \"sent\", g: \"got\", d: \"drained\",
     c: \"closed\", D: \"default\", k: \"done\", S: \"stalled\", x: \"cancelled\", m: \"made\", f: \"fault\", t: \"timed out\", w: \"woken\" };  // by the clock, or its own
@@ -100,7 +100,7 @@ class Journal {
     endOfBlock(at) { return Math.min(this.steps, (at + 1) * BLOCK); }
 ";
 
-pub(super) const SECOND: &[u8] = b"    block(at) {
+pub(super) const SECOND: &str = "    block(at) {
         if (this.read.size > MOST_READ) this.read.clear();
         return this.read.get(at) ?? this.read.set(at, readBlock(this, at)).get(at);
     }

@@ -1,6 +1,6 @@
 //! `viewer/end.html`, as `tools/embed_viewer.py` writes it.
 
-pub(super) const TEXT: &[u8] = b"</script>
+pub(super) const TEXT: &str = "</script>
 </body>
 </html>
 ";

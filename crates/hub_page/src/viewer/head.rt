@@ -1,6 +1,6 @@
 //! `viewer/head.html`, as `tools/embed_viewer.py` writes it.
 
-pub(super) const TEXT: &[u8] = b"<!doctype html>
+pub(super) const TEXT: &str = "<!doctype html>
 <html lang=\"en\">
 <head>
 <meta charset=\"utf-8\">

@@ -1,7 +1,7 @@
 //! `viewer/main.js`, as `tools/embed_viewer.py` writes it.
 
-pub(super) const TEXT: &[u8] =
-    b"// The page: what is chosen, and what search, links, wheel, mouse and keys do.
+pub(super) const TEXT: &str =
+    "// The page: what is chosen, and what search, links, wheel, mouse and keys do.
 const byId = (id) => document.getElementById(id), ENDMOST = [\"first\", \"last\"], KNOWN = `Find knows words as ${byId(\"find\").placeholder}; Help has all.`;
 class Page {
     constructor(journal, story, view = new View(journal, () => this.draw())) {

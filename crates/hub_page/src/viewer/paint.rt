@@ -1,7 +1,7 @@
 //! `viewer/paint.js`, as `tools/embed_viewer.py` writes it.
 
-pub(super) const FIRST: &[u8] =
-    b"// Draws what is in view: from near by shapes that tell what they are, from farther off on a canvas. Colours are those of style.css.
+pub(super) const FIRST: &str =
+    "// Draws what is in view: from near by shapes that tell what they are, from farther off on a canvas. Colours are those of style.css.
 const HUES = 8, COLUMN = 2, hueOf = (port) => (port ? \"h\" + port % HUES : \"edge\");
 const escaped = (value) => String(value || value === 0 ? value : \"\").replace(/[&<>\"]/g, (letter) => `&#${letter.charCodeAt()};`);
 function html(parts, ...values) {  // in which each value is text, unless it is HTML or a list of it
@@ -106,8 +106,8 @@ class Painter {
     paintCounts() {  // in columns of dots: waits as a band as high as their share, steps as a thinner one on it, troubles
 ";
 
-pub(super) const SECOND: &[u8] =
-    b"        const { view, journal } = this, edges = this.beginColumns(LEFT, Math.min(view.width, view.x(journal.steps - 0.5)), view.first, view.dots);
+pub(super) const SECOND: &str =
+    "        const { view, journal } = this, edges = this.beginColumns(LEFT, Math.min(view.width, view.x(journal.steps - 0.5)), view.first, view.dots);
         const bands = [[\"waited\", \"h1\", 0.8], [\"asked\", \"edge\", 1.2], [\"troubles\", \"trouble\", Infinity]];
         for (const [name, colour, weight] of bands) for (const [pid, { y, height }] of view.place)
             this.fillColumns(edges, colour, y, journal.shares(journal[name], pid, edges), weight * (height - 2), height - 2);

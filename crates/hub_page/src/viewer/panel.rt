@@ -1,7 +1,7 @@
 //! `viewer/panel.js`, as `tools/embed_viewer.py` writes it.
 
-pub(super) const TEXT: &[u8] =
-    b"// Tells of a step, or of the whole, in words: puts them where body.html has room for them. What stays empty is not shown.
+pub(super) const TEXT: &str =
+    "// Tells of a step, or of the whole, in words: puts them where body.html has room for them. What stays empty is not shown.
 const items = (texts) => texts.map((text) => html`<li>${text}</li>`);
 const rowsOf = (rows) => rows.map((row) => html`<tr>${row.map((cell) => html`<td>${cell}</td>`)}</tr>`);
 const stepLink = (place) => `step=${place + 1}`, wayLink = ({ place }) => `${stepLink(place)}&find=way ${place + 1}`;

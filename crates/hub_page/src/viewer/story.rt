@@ -1,5 +1,5 @@
 //! `viewer/story.html`, as `tools/embed_viewer.py` writes it.
 
-pub(super) const TEXT: &[u8] = b"--></div>
+pub(super) const TEXT: &str = "--></div>
 <script type=\"text/plain\" id=\"story\">
 ";

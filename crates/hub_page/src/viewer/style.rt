@@ -1,6 +1,6 @@
 //! `viewer/style.css`, as `tools/embed_viewer.py` writes it.
 
-pub(super) const TEXT: &[u8] = b":root {
+pub(super) const TEXT: &str = ":root {
     color-scheme: light dark;
     --paper: light-dark(#fff, #16181c); --text: light-dark(#222, #e8e8e8); --dim: light-dark(#595959, #a8a8a8);
     --rule: light-dark(#8a8a8a, #6f747c); --soft: light-dark(#f5f6f7, #1e2126); --line: light-dark(#dcdfe3, #33373e);

@@ -1,7 +1,7 @@
 //! `viewer/view.js`, as `tools/embed_viewer.py` writes it.
 
-pub(super) const TEXT: &[u8] =
-    b"// What is in view: a window of steps, lanes of processes, strips of ports, and what stands there; and what words mean that are looked for.
+pub(super) const TEXT: &str =
+    "// What is in view: a window of steps, lanes of processes, strips of ports, and what stands there; and what words mean that are looked for.
 const LEFT = 64, RIGHT = 44, AXIS = 26, STRIP = 24, FULL = 16, FOLDED = 8, LEAST_LANE = 16, MOST_LANE = 40, NEAREST = 90, CLOSE = 18;  // dots
 const MOST_NEAR = 500, MOST_SHAPES = 6000;  // so many steps have arrows, and tell what they are; so many are drawn one by one
 class View {

@@ -16,7 +16,7 @@ ROOT = sys.argv[1] if len(sys.argv) > 1 else os.path.join(os.path.dirname(os.pat
 CRATES = os.path.join(ROOT, 'crates')
 ROW = re.compile(r'^(?:\| )?`(\w+)`(?: \*)? \| (.*?) \|', re.M)
 TICKED = re.compile(r'`([^`]+)`')
-TEST_CRATES = ('hub_explore_tests', 'hub_live_tests', 'hub_tests', 'hub_trials', 'hub_uses')
+TEST_CRATES = ('hub_live_tests', 'hub_tests', 'hub_trials', 'hub_uses')
 STEP = re.compile(r'\bCancel\b')
 
 

@@ -19,7 +19,7 @@ LIMIT = re.compile(r'(?<![\w.])(?:%s)(?![\w])' % '|'.join(NUMBERS))
 TEXT = re.compile(r'"(?:[^"\\]|\\.)*"')
 WIDTH = re.compile(r'2 ?\^ ?6[34]|1 << 63|\b64[- ]bits?\b|digits_onto 64')
 VIEWER = os.path.join('src', 'viewer', '')  # files of the folder viewer as constants
-TEST_CRATES = ('hub_explore_tests', 'hub_live_tests', 'hub_tests', 'hub_trials')
+TEST_CRATES = ('hub_live_tests', 'hub_tests', 'hub_trials')
 
 
 def may_have_numbers(path):

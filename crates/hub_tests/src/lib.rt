@@ -6,6 +6,8 @@ mod compare;
 #[cfg(test)]
 mod parts;
 #[cfg(test)]
+mod schedules;
+#[cfg(test)]
 mod steps;
 #[cfg(test)]
 mod texts;

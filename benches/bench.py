@@ -6,9 +6,9 @@ growth      the same on the journals of make_growth.py, in which much waits or h
 verify      `chanhub verify` beside `chanhub replay`
 live        `hub_trials` beside the plain hubs of live_peer, and beside channels without a journal, of crossbeam and of Go
 scenarios   `hub_trials` beside `chanhub run`
-capi        the C library beside the plain hub of live_peer, called from C: c_times.c, linked with each
+capi        the C library beside the plain hub of live_peer, called from C: c_times.c, linked with each; and called from Rust
 
-live_peer, crossbeam_peer and go_peer are built, each where its tools are. Journals and scenarios are made in FOLDER, where
+live_peer, crossbeam_peer, go_peer and rust_peer are built, each where its tools are. Journals and scenarios are made in FOLDER, where
 they are not there. RUNS (10, or what the environment says) is how often each program runs, in turn with the others. A replay
 runs REPEATS times as often (8), and its user time is the least of the means of REPEATS runs, since a kernel tells user from
 system time by ticks, of which one run has few. What can't be measured is said to be skipped.
@@ -70,6 +70,8 @@ CROSSBEAM = Peer('crossbeam_peer', 'crossbeam_peer', 'target/release/crossbeam_p
 # go would ask git for the state of the repository, which git may refuse to tell
 GO = Peer('go_peer', 'go_peer', 'out/go_peer', ['go', 'build', '-buildvcs=false', '-o', 'out/go_peer', '.'])
 PEERS = (NUMBERS, BYTES, COMPACT, CROSSBEAM, GO)
+# the package for Rust
+RUST = Peer('rust_peer', 'rust_peer', 'target/release/rust_peer', [*CARGO, 'target'])
 
 
 def skip(what):
@@ -289,9 +291,9 @@ def c_rates(program):
     return {name: {'best': int(best), 'median': int(median)} for name, _, best, _, median in fields}
 
 
-def c_instructions(program, workload):
+def call_instructions(program, *more):
     """The instructions of one call: what 100,000 more of them take."""
-    few, many = [instructions([program, str(calls), '1', workload], os.devnull) for calls in (C_CALLS // 2, C_CALLS)]
+    few, many = [instructions([program, str(calls), *more], os.devnull) for calls in (C_CALLS // 2, C_CALLS)]
     return (many - few) / (C_CALLS // 2)
 
 
@@ -303,7 +305,7 @@ def c_rows(programs):
         yield Row(name + ', median', [statistics.median(rates[name]['median'] for rates in of_one) / 1000 for of_one in sets])
     if has_valgrind():
         for name in C_COUNTED:
-            yield Row(name + ', instructions of a call', [c_instructions(program, name) for program in programs])
+            yield Row(name + ', instructions of a call', [call_instructions(program, '1', name) for program in programs])
     else:
         skip('instructions: valgrind is not there')
 
@@ -315,6 +317,11 @@ def capi(folder, _):
         programs += [c_times('numbers', PEER_LIBRARY, folder), c_times('bytes', PEER_BYTES_LIBRARY, folder)]
     title = 'The C library, in thousands of calls a second, and of bytes of the journal a second'
     print_beside(title, 'libchanhub', [NUMBERS.name, BYTES.name], c_rows(programs))
+    from_rust = build(RUST) if has_valgrind() else None
+    if from_rust:
+        from_c = call_instructions(programs[0], '1', 'alone')
+        row = Row('alone, instructions of a call', [call_instructions(from_rust), from_c])
+        print_table('The package for Rust', 'from Rust', 'from C', [row])
 
 
 # each part, and what has to be built for it

@@ -569,6 +569,7 @@ impl Hub {
     }
 }
 
+#[inline]
 fn selected(told: sys::Told) -> Result<Selected, Ended> {
     match told.what {
         sys::SENT => Ok(Selected::Sent(told.index.into())),
@@ -603,6 +604,7 @@ pub(crate) fn recv_case(port: u16) -> sys::Case {
 }
 
 /// The value that a receive got.
+#[inline]
 fn value_got(selected: Selected) -> Value {
     match selected {
         Selected::Got(_, value) => value,
@@ -635,6 +637,7 @@ impl Seat {
         self.hub.0.call(self.pid, call)
     }
 
+    #[inline]
     fn is_mine(&self, hub: u64) -> Result<(), Fault> {
         if hub == self.hub.0.id {
             Ok(())
@@ -665,11 +668,13 @@ impl Seat {
         done(told).map(|()| told.port)
     }
 
+    #[inline]
     pub(crate) fn send(&self, port: u16, value: Value) -> Result<Selected, Ended> {
         let value = value.raw();
         selected(self.call(|hub, pid| unsafe { sys::chanhub_send(hub, pid, port.into(), value) }))
     }
 
+    #[inline]
     pub(crate) fn recv(&self, port: u16) -> Result<Value, Ended> {
         let told = self.call(|hub, pid| unsafe { sys::chanhub_recv(hub, pid, port.into()) });
         selected(told).map(value_got)
@@ -685,6 +690,7 @@ impl Seat {
         done(self.call(|hub, pid| unsafe { sys::chanhub_close(hub, pid, port.into()) }))
     }
 
+    #[inline]
     pub(crate) fn select_of(
         &self,
         cases: &[sys::Case],
@@ -867,6 +873,7 @@ impl Receiver {
     ///
     /// Returns [`Ended::Drained`] if the channel is closed and empty. Returns [`Ended::Stalled`] or [`Ended::Cancelled`] if that
     /// ended the wait, and [`Ended::Fault`] if the hub did not carry out the call.
+    #[inline]
     pub fn recv(&self, seat: &mut Seat) -> Result<Value, Ended> {
         seat.is_mine(self.hub)?;
         seat.recv(self.port)

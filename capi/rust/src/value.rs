@@ -49,6 +49,7 @@ impl fmt::Debug for Bytes {
 
 impl Value {
     /// Returns the number, or `None` if the value is bytes.
+    #[inline]
     pub fn number(self) -> Option<u64> {
         match self {
             Value::Number(number) => Some(number),
@@ -56,6 +57,7 @@ impl Value {
         }
     }
 
+    #[inline]
     pub(crate) fn raw(self) -> sys::Value {
         match self {
             Value::Number(number) => sys::Value {
@@ -71,6 +73,7 @@ impl Value {
         }
     }
 
+    #[inline]
     pub(crate) fn of(raw: sys::Value) -> Value {
         if raw.is_bytes {
             Value::Bytes(Bytes {
@@ -84,6 +87,7 @@ impl Value {
 }
 
 impl From<u64> for Value {
+    #[inline]
     fn from(number: u64) -> Value {
         Value::Number(number)
     }

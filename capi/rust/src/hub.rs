@@ -20,6 +20,12 @@ use std::time::Duration;
 /// How long a call sleeps before it tries again to time out, if there was no memory for that.
 const MEMORY_PAUSE: Duration = Duration::from_millis(1);
 
+/// The most cases that a select has, in a hub of any edition.
+pub(crate) const MOST_CASES: usize = 16;
+
+/// The most cases for which a select clears so few places that this needs no call.
+const FEW_CASES: usize = 4;
+
 /// The edition of a hub, which determines what its calls may contain. Use `Two` unless numbers are enough.
 #[derive(Clone, Copy, Debug, PartialEq, Eq)]
 pub enum Edition {
@@ -143,17 +149,30 @@ impl Raw {
         });
     }
 
-    /// Makes a call of the thread that has the seat, after which the process is in this state. If the hub is watched, also closes the
-    /// abandoned ports: those that are known before, and those that came while the call kept others from closing them.
+    /// Makes a call of the thread that has the seat, after which the process is in this state.
+    #[inline]
     fn call_then<R>(
         &self,
         pid: u8,
         next: u8,
         call: impl FnOnce(*mut sys::Chanhub, c_uint) -> R,
     ) -> R {
-        if !self.is_watched.load(Ordering::Relaxed) {
-            return call(self.at, pid.into());
+        if self.is_watched.load(Ordering::Relaxed) {
+            self.call_watched(pid, next, call)
+        } else {
+            call(self.at, pid.into())
         }
+    }
+
+    /// The same in a hub that is watched. Also closes the abandoned ports: those that are known before, and those that came while the
+    /// call kept others from closing them. It is not inlined, so that a call is short where nothing is watched.
+    #[inline(never)]
+    fn call_watched<R>(
+        &self,
+        pid: u8,
+        next: u8,
+        call: impl FnOnce(*mut sys::Chanhub, c_uint) -> R,
+    ) -> R {
         let process = self.process(pid);
         process.begin();
         self.close_as(pid);
@@ -569,21 +588,49 @@ impl Hub {
     }
 }
 
+/// What a send was told.
+#[inline]
+fn sent(told: sys::Told) -> Result<(), Ended> {
+    match told.what {
+        sys::SENT => Ok(()),
+        _ => Err(ended(&told)),
+    }
+}
+
+/// What a receive was told.
+#[inline]
+fn got(told: sys::Told) -> Result<Value, Ended> {
+    match told.what {
+        sys::GOT => Ok(Value::of(told.value)),
+        _ => Err(ended(&told)),
+    }
+}
+
+/// What a select was told.
 #[inline]
 fn selected(told: sys::Told) -> Result<Selected, Ended> {
     match told.what {
         sys::SENT => Ok(Selected::Sent(told.index.into())),
         sys::GOT => Ok(Selected::Got(told.index.into(), Value::of(told.value))),
         sys::DEFAULT => Ok(Selected::Default),
-        sys::DRAINED => Err(Ended::Drained(told.index)),
-        sys::CLOSED => Err(Ended::Closed(told.index)),
-        sys::STALLED => Err(Ended::Stalled),
-        sys::CANCELLED => Err(Ended::Cancelled),
-        sys::TIMED_OUT => Err(Ended::TimedOut),
-        sys::FAULT if told.fault == sys::DIVERGED => Err(Ended::Diverged(told.value.number)),
-        sys::FAULT => Err(Ended::Fault(Fault(told.fault))),
-        sys::WAITING => Err(Ended::Fault(Fault::BUSY)),
-        what => unreachable!("chanhub.h has no answer {what} to a send, a receive or a select"),
+        _ => Err(ended(&told)),
+    }
+}
+
+/// Why a send, a receive or a select failed. It is not inlined, so that a call finds its usual answer by one comparison.
+#[cold]
+#[inline(never)]
+fn ended(told: &sys::Told) -> Ended {
+    match told.what {
+        sys::DRAINED => Ended::Drained(told.index),
+        sys::CLOSED => Ended::Closed(told.index),
+        sys::STALLED => Ended::Stalled,
+        sys::CANCELLED => Ended::Cancelled,
+        sys::TIMED_OUT => Ended::TimedOut,
+        sys::FAULT if told.fault == sys::DIVERGED => Ended::Diverged(told.value.number),
+        sys::FAULT => Ended::Fault(Fault(told.fault)),
+        sys::WAITING => Ended::Fault(Fault::BUSY),
+        what => unreachable!("chanhub.h has no answer {what} to this send, receive or select"),
     }
 }
 
@@ -603,15 +650,21 @@ pub(crate) fn recv_case(port: u16) -> sys::Case {
     }
 }
 
-/// The value that a receive got.
-#[inline]
-fn value_got(selected: Selected) -> Value {
-    match selected {
-        Selected::Got(_, value) => value,
-        Selected::Sent(_) | Selected::Default => {
-            unreachable!("a receive gets a value, or ends without one")
-        }
-    }
+/// Makes a call with places for so many cases. Each place has a receive from port 0, which never proceeds. The places are on the
+/// stack, unless they are for more cases than a select has: those are still for the library to refuse.
+pub(crate) fn with_places<R>(count: usize, call: impl FnOnce(&mut [sys::Case]) -> R) -> R {
+    let (mut few, mut most, mut more);
+    let places = if count <= FEW_CASES {
+        few = [recv_case(0); FEW_CASES];
+        &mut few[..count]
+    } else if count <= MOST_CASES {
+        most = [recv_case(0); MOST_CASES];
+        &mut most[..count]
+    } else {
+        more = vec![recv_case(0); count];
+        &mut more[..]
+    };
+    call(places)
 }
 
 fn done(told: sys::Told) -> Result<(), Fault> {
@@ -669,21 +722,20 @@ impl Seat {
     }
 
     #[inline]
-    pub(crate) fn send(&self, port: u16, value: Value) -> Result<Selected, Ended> {
+    pub(crate) fn send(&self, port: u16, value: Value) -> Result<(), Ended> {
         let value = value.raw();
-        selected(self.call(|hub, pid| unsafe { sys::chanhub_send(hub, pid, port.into(), value) }))
+        sent(self.call(|hub, pid| unsafe { sys::chanhub_send(hub, pid, port.into(), value) }))
     }
 
     #[inline]
     pub(crate) fn recv(&self, port: u16) -> Result<Value, Ended> {
-        let told = self.call(|hub, pid| unsafe { sys::chanhub_recv(hub, pid, port.into()) });
-        selected(told).map(value_got)
+        // The port goes by value, so that it need not lie in memory.
+        got(self.call(move |hub, pid| unsafe { sys::chanhub_recv(hub, pid, port.into()) }))
     }
 
     /// Receives a value, and waits for it at most so long.
     pub(crate) fn recv_for(&self, port: u16, timeout: Duration) -> Result<Value, Ended> {
-        self.select_for(&[recv_case(port)], 0, timeout)
-            .map(value_got)
+        got(self.wait_for(&[recv_case(port)], 0, timeout))
     }
 
     pub(crate) fn close(&self, port: u16) -> Result<(), Fault> {
@@ -703,16 +755,21 @@ impl Seat {
         }))
     }
 
-    /// Makes a call that waits for at most so long. If there is no memory to time it out, it waits until there is, or for its answer.
+    /// Makes a select that waits for at most so long.
     pub(crate) fn select_for(
         &self,
         cases: &[sys::Case],
         word: u64,
         timeout: Duration,
     ) -> Result<Selected, Ended> {
+        selected(self.wait_for(cases, word, timeout))
+    }
+
+    /// Makes a call that waits for at most so long. If there is no memory to time it out, it waits until there is, or for its answer.
+    fn wait_for(&self, cases: &[sys::Case], word: u64, timeout: Duration) -> sys::Told {
         let (first, count) = (cases.as_ptr(), cases.len());
         let nanoseconds = u64::try_from(timeout.as_nanos()).unwrap_or(u64::MAX);
-        selected(self.call(|hub, pid| unsafe {
+        self.call(|hub, pid| unsafe {
             let deadline = sys::chanhub_in(nanoseconds);
             let mut told = sys::chanhub_select_until(hub, pid, first, count, false, word, deadline);
             while told.what == sys::WAITING {
@@ -720,7 +777,7 @@ impl Seat {
                 told = sys::chanhub_resume(hub, pid, u64::MAX);
             }
             told
-        }))
+        })
     }
 
     /// Fires one of the cases that can proceed.
@@ -759,11 +816,10 @@ impl Seat {
         has_default: bool,
         word: u64,
     ) -> Result<Selected, Ended> {
-        let raw = cases
-            .iter()
-            .map(|case| self.raw(case))
-            .collect::<Result<Vec<_>, _>>()?;
-        self.select_of(&raw, has_default, word)
+        with_places(cases.len(), |places| {
+            self.put(cases, places)?;
+            self.select_of(places, has_default, word)
+        })
     }
 
     /// Fires one of the cases that can proceed, and waits for at most so long until one can. Never returns [`Selected::Default`].
@@ -778,20 +834,33 @@ impl Seat {
         word: u64,
         timeout: Duration,
     ) -> Result<Selected, Ended> {
-        let raw = cases
-            .iter()
-            .map(|case| self.raw(case))
-            .collect::<Result<Vec<_>, _>>()?;
-        self.select_for(&raw, word, timeout)
+        with_places(cases.len(), |places| {
+            self.put(cases, places)?;
+            self.select_for(places, word, timeout)
+        })
     }
 
-    fn raw(&self, case: &Case) -> Result<sys::Case, Fault> {
-        match *case {
-            Case::Send(Sender { hub, port }, value) => {
-                self.is_mine(hub).map(|()| send_case(port, value))
+    /// Puts the cases into their places, unless one is of another hub.
+    fn put(&self, cases: &[Case], places: &mut [sys::Case]) -> Result<(), Fault> {
+        for (place, case) in places.iter_mut().zip(cases) {
+            match case {
+                Case::Send(sender, value) => {
+                    self.is_mine(sender.hub)?;
+                    place.sends = true;
+                    place.port = sender.port;
+                    match value {
+                        // The rest of the place is 0 already.
+                        Value::Number(number) => place.value.number = *number,
+                        Value::Bytes(_) => place.value = value.raw(),
+                    }
+                }
+                Case::Recv(receiver) => {
+                    self.is_mine(receiver.hub)?;
+                    place.port = receiver.port;
+                }
             }
-            Case::Recv(Receiver { hub, port }) => self.is_mine(hub).map(|()| recv_case(port)),
         }
+        Ok(())
     }
 
     /// Ends the waiting call of another process, which returns [`Ended::Cancelled`].
@@ -830,7 +899,7 @@ impl Sender {
     /// wait, and [`Ended::Fault`] if the hub did not carry out the call.
     pub fn send(&self, seat: &mut Seat, value: impl Into<Value>) -> Result<(), Ended> {
         seat.is_mine(self.hub)?;
-        seat.send(self.port, value.into()).map(|_sent| ())
+        seat.send(self.port, value.into())
     }
 
     /// Sends a value, and waits for that at most so long. A timeout of zero does not wait.
@@ -981,15 +1050,31 @@ impl FusedIterator for Drain<'_> {}
 mod tests {
     use super::*;
 
-    #[test]
-    fn a_call_that_is_left_waiting_is_no_default() {
-        let told = sys::Told {
-            what: sys::WAITING,
+    fn told(what: u8) -> sys::Told {
+        sys::Told {
+            what,
             fault: 0,
             index: 0,
             port: 0,
             value: sys::Value::default(),
-        };
-        assert_eq!(selected(told), Err(Ended::Fault(Fault::BUSY)));
+        }
+    }
+
+    #[test]
+    fn a_call_that_is_left_waiting_is_no_default() {
+        let waiting = selected(told(sys::WAITING));
+        assert_eq!(waiting, Err(Ended::Fault(Fault::BUSY)));
+    }
+
+    #[test]
+    #[should_panic(expected = "no answer 3")]
+    fn a_send_gets_no_value() {
+        let _ = sent(told(sys::GOT));
+    }
+
+    #[test]
+    #[should_panic(expected = "no answer 2")]
+    fn a_receive_sends_no_value() {
+        let _ = got(told(sys::SENT));
     }
 }

@@ -393,7 +393,8 @@ impl<'a, T> BoundSender<'a, T> {
     /// Returns the value with the reason why it was not sent: [`Ended::Closed`] if the channel is closed, [`Ended::Stalled`] or
     /// [`Ended::Cancelled`] if that ended the wait, and [`Ended::Fault`] if the hub did not carry out the call.
     pub fn send(&self, value: T) -> Result<(), SendError<T>> {
-        match self.offer(value, |number| self.seat.send(self.port(), number)) {
+        let send = |number| self.seat.send(self.port(), number).map(|()| true);
+        match self.offer(value, send) {
             Ok(_sent) => Ok(()),
             Err((value, ended)) => Err(SendError { value, ended }),
         }
@@ -408,7 +409,8 @@ impl<'a, T> BoundSender<'a, T> {
     pub fn try_send(&self, value: T) -> Result<(), TrySendError<T>> {
         let try_case = |number| {
             let case = send_case(self.port(), number);
-            self.seat.select_of(&[case], true, 0)
+            let selected = self.seat.select_of(&[case], true, 0)?;
+            Ok(selected != Selected::Default)
         };
         match self.offer(value, try_case) {
             Ok(None) => Ok(()),
@@ -427,7 +429,7 @@ impl<'a, T> BoundSender<'a, T> {
     pub fn send_timeout(&self, value: T, timeout: Duration) -> Result<(), SendTimeoutError<T>> {
         let try_for = |number| {
             let case = send_case(self.port(), number);
-            self.seat.select_for(&[case], 0, timeout)
+            self.seat.select_for(&[case], 0, timeout).map(|_sent| true)
         };
         match self.offer(value, try_for) {
             Ok(_sent) => Ok(()),
@@ -436,11 +438,12 @@ impl<'a, T> BoundSender<'a, T> {
         }
     }
 
-    /// Puts a value into the table, and makes a call that sends its number. Returns the value if it was not sent.
+    /// Puts a value into the table, and makes a call that sends its number and tells whether it did. Returns the value if it was not
+    /// sent.
     fn offer(
         &self,
         value: T,
-        call: impl FnOnce(Value) -> Result<Selected, Ended>,
+        call: impl FnOnce(Value) -> Result<bool, Ended>,
     ) -> Result<Option<T>, (T, Ended)> {
         let channel = &self.channel;
         if let Err(fault) = channel.is_for(self.seat) {
@@ -448,8 +451,8 @@ impl<'a, T> BoundSender<'a, T> {
         }
         let number = channel.table.put(value);
         match call(number) {
-            Ok(Selected::Default) => Ok(Some(channel.take(number))),
-            Ok(_sent) => Ok(None),
+            Ok(true) => Ok(None),
+            Ok(false) => Ok(Some(channel.take(number))),
             Err(ended) => Err((channel.take(number), ended)),
         }
     }

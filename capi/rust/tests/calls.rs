@@ -157,6 +157,27 @@ fn select_tells_its_case() {
 }
 
 #[test]
+fn a_select_has_up_to_16_cases() {
+    let (_hub, mut seat) = one_seat(Edition::Two);
+    let (sender, receiver) = seat.channel(1).unwrap();
+    let values = [Value::Number(5), Value::try_from(&b"five"[..]).unwrap()];
+    for (count, value) in (1..=16).zip(values.into_iter().cycle()) {
+        let mut cases = vec![Case::Recv(receiver); count];
+        cases[count - 1] = Case::Send(sender, value);
+        let sent = seat.select(&cases, false, 0);
+        assert_eq!(sent, Ok(Selected::Sent(count - 1)));
+        let cases = vec![Case::Recv(receiver); count];
+        let got = seat.select(&cases, false, count as u64 - 1);
+        assert_eq!(got, Ok(Selected::Got(count - 1, value)));
+        assert_eq!(seat.select(&cases, true, 0), Ok(Selected::Default));
+    }
+    for count in [17, 40] {
+        let told = seat.select(&vec![Case::Send(sender, values[0]); count], true, 0);
+        assert_eq!(told, Err(Ended::Fault(Fault::BAD_CALL)));
+    }
+}
+
+#[test]
 fn an_end_of_another_hub_is_refused() {
     let (_one, mut seat) = one_seat(Edition::One);
     let (other, mut stranger) = one_seat(Edition::One);

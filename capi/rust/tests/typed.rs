@@ -620,6 +620,30 @@ fn a_select_tells_of_closed_channels_and_gives_values_back() {
 }
 
 #[test]
+fn a_select_of_more_than_16_cases_is_refused_and_gives_values_back() {
+    let (_hub, [seat]) = seats();
+    let (sender, receiver) = channel::<usize>(&seat, 1).unwrap();
+    let (sender, receiver) = (sender.bind(&seat), receiver.bind(&seat));
+    for count in 1..=20 {
+        let mut values: Vec<_> = (0..count).map(Some).collect();
+        let mut select = Select::new(&seat);
+        select.choose(count as u64 - 1);
+        for value in &mut values {
+            select.send(&sender, value);
+        }
+        let told = select.select();
+        if count <= 16 {
+            assert_eq!(told.unwrap().send(&sender), Ok(()));
+            assert_eq!(receiver.recv(), Ok(count - 1));
+            assert_eq!(values[count - 1].replace(count - 1), None); // it was sent
+        } else {
+            assert_eq!(told.unwrap_err(), Ended::Fault(Fault::BAD_CALL));
+        }
+        assert!(values.into_iter().eq((0..count).map(Some)));
+    }
+}
+
+#[test]
 fn a_select_chooses_each_case_at_some_time() {
     let (_hub, [seat]) = seats();
     let (words, from_words, numbers, from_numbers) = words_and_numbers(&seat);

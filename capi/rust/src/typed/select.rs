@@ -2,7 +2,7 @@
 
 use super::{BoundReceiver, BoundSender, Channel};
 use crate::error::{Ended, Fault};
-use crate::hub::{recv_case, send_case, Seat, Selected};
+use crate::hub::{send_case, with_places, Seat, Selected, MOST_CASES};
 use crate::sys;
 use crate::value::Value;
 use std::collections::hash_map::RandomState;
@@ -10,9 +10,6 @@ use std::error::Error;
 use std::fmt;
 use std::hash::{BuildHasher, Hasher};
 use std::time::Duration;
-
-/// A port whose cases never proceed.
-const NEVER: u16 = 0;
 
 /// What the library promises of the others.
 const FIRES: &str = "a select without a default fires a case, or ends";
@@ -68,8 +65,8 @@ enum Case<'a> {
 
 /// A value that a case offers. While the hub has its number, it is in the table of the channel.
 trait Offer {
-    /// Puts the value into the table, and returns the case that sends its number.
-    fn put(&mut self) -> sys::Case;
+    /// Puts the value into the table, and the case that sends its number into the place. Without a value the place stays as it is.
+    fn put(&mut self, place: &mut sys::Case);
 
     /// Takes the value out of the table again, because it was not sent.
     fn take_back(&mut self);
@@ -82,11 +79,10 @@ struct Offered<'a, T> {
 }
 
 impl<T> Offer for Offered<'_, T> {
-    fn put(&mut self) -> sys::Case {
+    fn put(&mut self, place: &mut sys::Case) {
         self.number = self.value.take().map(|value| self.channel.table.put(value));
-        match self.number {
-            Some(number) => send_case(self.channel.port, number),
-            None => recv_case(NEVER),
+        if let Some(number) = self.number {
+            *place = send_case(self.channel.port, number);
         }
     }
 
@@ -100,7 +96,7 @@ impl<'a> Select<'a> {
     pub fn new(seat: &'a Seat) -> Select<'a> {
         Select {
             seat,
-            cases: Vec::new(),
+            cases: Vec::with_capacity(MOST_CASES), // so that it need not grow
             is_of_one_hub: true,
             word: None,
         }
@@ -188,40 +184,44 @@ impl<'a> Select<'a> {
         if !self.is_of_one_hub {
             return Err(Fault::BAD_CALL.into());
         }
-        let cases: Vec<_> = self.cases.iter_mut().map(Case::put).collect();
-        let word = self.word.unwrap_or_else(random_word);
-        let told = call(self.seat, &cases, word);
-        let sent = match told {
-            Ok(Selected::Sent(index)) => Some(index),
-            _ => None,
-        };
-        for (index, case) in self.cases.iter_mut().enumerate() {
-            if Some(index) != sent {
-                case.take_back();
+        with_places(self.cases.len(), |cases| {
+            for (place, case) in cases.iter_mut().zip(&mut self.cases) {
+                case.put(place);
             }
-        }
-        let (index, result) = match told {
-            Ok(Selected::Default) => return Ok(None),
-            Ok(Selected::Sent(index)) => (index, Ok(None)),
-            Ok(Selected::Got(index, number)) => (index, Ok(Some(number))),
-            Err(ended @ (Ended::Closed(index) | Ended::Drained(index))) => {
-                (index.into(), Err(ended))
+            let word = self.word.unwrap_or_else(random_word);
+            let told = call(self.seat, cases, word);
+            let sent = match told {
+                Ok(Selected::Sent(index)) => Some(index),
+                _ => None,
+            };
+            for (index, case) in self.cases.iter_mut().enumerate() {
+                if Some(index) != sent {
+                    case.take_back();
+                }
             }
-            Err(ended) => return Err(ended),
-        };
-        Ok(Some(SelectedOperation {
-            index,
-            place: (self.seat.hub().id(), cases[index].port),
-            result,
-        }))
+            let (index, result) = match told {
+                Ok(Selected::Default) => return Ok(None),
+                Ok(Selected::Sent(index)) => (index, Ok(None)),
+                Ok(Selected::Got(index, number)) => (index, Ok(Some(number))),
+                Err(ended @ (Ended::Closed(index) | Ended::Drained(index))) => {
+                    (index.into(), Err(ended))
+                }
+                Err(ended) => return Err(ended),
+            };
+            Ok(Some(SelectedOperation {
+                index,
+                place: (self.seat.hub().id(), cases[index].port),
+                result,
+            }))
+        })
     }
 }
 
 impl Case<'_> {
-    fn put(&mut self) -> sys::Case {
+    fn put(&mut self, place: &mut sys::Case) {
         match self {
-            Case::Recv(port) => recv_case(*port),
-            Case::Send(offer) => offer.put(),
+            Case::Recv(port) => place.port = *port,
+            Case::Send(offer) => offer.put(place),
         }
     }
 

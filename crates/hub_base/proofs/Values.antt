@@ -4,7 +4,7 @@ use Rattle.std.proofs.Common.{Some, None, refl, ap, ◌∙◌, sym, subst, arith
 use Rattle.std.proofs.lemmas.Bool.{and_parts, eqb-true, leb-true, le-leb}
 use Rattle.std.proofs.lemmas.Bool.Decides.{nat_tests}
 use Rattle.std.proofs.lemmas.Grind.{common_steps}
-use Rattle.std.proofs.lemmas.List.{drop-replicate}
+use Rattle.std.proofs.lemmas.List.{append-nil, drop-replicate}
 use Rattle.std.proofs.lemmas.Slice.Eq.{bytes_eq-Decides}
 use Rattle.std.proofs.Math.Bool.{Bool-set}
 use Rattle.std.specs.Int.{to_le_bytes, w64}
@@ -26,6 +26,10 @@ zeros_behind bs = drop-replicate {X = ℕ} (length bs) MOST_VALUE_BYTES 0
 -- bytes with zeros behind them
 pub padded_is : (bs first tail : List ℕ) → first ≡ bs → tail ≡ replicate (MOST_VALUE_BYTES - length bs) 0 → first ++ tail ≡ padded bs
 padded_is bs first tail is zeros = ap (λ xs. xs ++ tail) is ∙ ap (λ ys. bs ++ ys) zeros
+
+-- behind bytes that fill their places there is none
+pub full_is : (bs places : List ℕ) → length bs ≡ MOST_VALUE_BYTES → places ≡ bs → places ≡ padded bs
+full_is bs places count is = is ∙ sym (ap (λ n. bs ++ replicate (MOST_VALUE_BYTES - n) 0) count ∙ append-nil bs)
 
 -- ---- what can be said, as a fact and as a test
 byte-below : (b : ℕ) → b < 256 → nat_lt b 256 ≡ true
@@ -116,6 +120,22 @@ pub every_value : (v : Value) → IsValue v
 every_value v =
     let parts = stored-parts v.form v.bytes v.stored in
     record { fits = parts.fits; one = sym (saying_is (content v) v.form v.bytes v.stored parts.fits parts.kind parts.all) }
+
+-- the places of bytes are these, with zeros behind them
+places_of_bytes : (c : Content) → number_in c ≡ None → places_of c ≡ padded (bytes_in c)
+places_of_bytes (Num n) h = cc
+places_of_bytes (Bytes bs) h = refl
+
+pub padded_bytes : (v : Value) → number_in (content v) ≡ None → v.bytes ≡ padded (bytes_in (content v))
+padded_bytes v none = (stored-parts v.form v.bytes v.stored).all ∙ places_of_bytes (content v) none
+
+-- the form counts them
+form_counts : (c : Content) → form_of c - 1 ≡ length (bytes_in c)
+form_counts (Num n) = refl
+form_counts (Bytes bs) = omega arith
+
+pub count_of_bytes : (v : Value) → v.form - 1 ≡ length (bytes_in (content v))
+count_of_bytes v = ap (λ k. k - 1) (stored-parts v.form v.bytes v.stored).kind ∙ form_counts (content v)
 
 -- places that store a number, or bytes, are its value's
 pub number_is : (n : ℕ) (places : List ℕ) (is : is_stored 0 places ≡ true) → n ≤ GREATEST_VALUE → places ≡ padded (to_le_bytes w64 n)

@@ -23,7 +23,7 @@ pub struct Value {
 }
 
 impl Value {
-    ghost use Rattle.std.specs.Prelude.{◌+◌, ◌≤◌, ◌<◌, ◌↔◌, ℕ, List, IfSome, IsNone, length, slice_get};
+    ghost use Rattle.std.specs.Prelude.{◌+◌, ◌≤◌, ◌<◌, ◌↔◌, ℕ, List, IfSome, IsNone, None, length, slice_get};
     ghost use Rattle.hub_base.specs.Content.{padded};
     ghost use Rattle.hub_base.specs.Content.Content.{Num, Bytes};
     ghost use Rattle.hub_base.specs.Head.{has_value};
@@ -54,6 +54,10 @@ impl Value {
         ensures says { IfSome result (λ v. content v ≡ Bytes bytes.now) }
         ensures none { IsNone result ↔ (MOST_VALUE_BYTES < length bytes.now) }
     {
+        // Most bytes that are sent fill their places, and are then copied without a loop.
+        if let Ok(places) = <[u8; MOST_VALUE_BYTES]>::try_from(bytes) {
+            return Some(Value::of_places(MOST_VALUE_BYTES, places));
+        }
         if bytes.len() > MOST_VALUE_BYTES {
             return None;
         }
@@ -106,11 +110,21 @@ impl Value {
         }
     }
 
+    /// The bytes of a value that is no number, with zeros behind them in the places that they leave free.
+    #[tactic(auto, using(crate::proofs::Values::padded_bytes))]
+    pub fn padded_bytes(&self) -> &[u8; MOST_VALUE_BYTES]
+        requires { number_in (content self.now) ≡ None }
+        ensures { result.now ≡ padded (bytes_in (content self.now)) }
+    {
+        &self.bytes
+    }
+
     /// How many bytes the value is; 0 for a number.
+    #[tactic(auto, using(crate::proofs::Values::count_of_bytes))]
     pub fn len(self) -> u8
         ensures { result ≡ length (bytes_in (content self)) }
     {
-        self.as_bytes().len() as u8
+        self.form.saturating_sub(1)
     }
 
     /// Its byte of this number, counted from 0; `None` behind the last, and for a number.

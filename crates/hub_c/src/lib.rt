@@ -33,16 +33,7 @@ pub extern "C" fn hub_c_open(
 ) -> u8
     ensures { OpensSession edition procs limit hub.new.session result }
 {
-    match open_box(alloc, edition, procs, limit) {
-        Ok(session) => {
-            hub.put_in(session);
-            0
-        }
-        Err(refusal) => {
-            hub.end(alloc);
-            refusal
-        }
-    }
+    hub.put_in_opened(alloc, open_box(alloc, edition, procs, limit))
 }
 
 /// The same, but the hub never ends: a chapter is cut once it has `keep` steps behind its checkpoint, exits not counted, 1 to
@@ -58,16 +49,8 @@ pub extern "C" fn hub_c_open_endless(
 ) -> u8
     ensures { OpensEndless edition procs keep (is_true hands_out) hub.new.session result }
 {
-    match open_endless_box(alloc, edition, procs, keep, is_true(hands_out)) {
-        Ok(session) => {
-            hub.put_in(session);
-            0
-        }
-        Err(refusal) => {
-            hub.end(alloc);
-            refusal
-        }
-    }
+    let opened = open_endless_box(alloc, edition, procs, keep, is_true(hands_out));
+    hub.put_in_opened(alloc, opened)
 }
 
 /// Opens a hub that follows the journal of this text: its edition, number of processes and steps. A step is made only if it is
@@ -104,7 +87,7 @@ pub extern "C" fn hub_c_open_following(
 pub extern "C" fn hub_c_end(alloc: Global, hub: &mut HubC)
     ensures { hub.new.session ≡ None }
 {
-    drop(hub.take_out(alloc));
+    hub.end(alloc);
 }
 
 /// Makes a port of this capacity.

@@ -1,7 +1,8 @@
 -- Entries that are kept short, and how they are written out.
 use Rattle.std.proofs.Common.{◌≡◌, ◌∙◌, ◌++◌, ◌≤◌, ◌<◌, ◌+◌, ◌∷◌, [], Bool, ℕ, zero, suc, List, Some, None, length, take, drop}
 use Rattle.std.proofs.Common.{ap, sym, subst, refl, arith, append-nil, append_assoc, length-append}
-use Rattle.std.specs.Prelude.{get_or, slice_get, slice_index_or}
+use Rattle.std.specs.Prelude.{get_or, slice_get, slice_index_or, vec_len}
+use Rattle.std.specs.Vec.{vec_capacity}
 use Rattle.std.proofs.lemmas.List.{take-append-le, drop-append-le, drop-drop, length-drop}
 use Rattle.std.proofs.lemmas.Option.{none-some, same_Some, slice_get_past, slice_get_read}
 use Rattle.std.proofs.Math.Seq.{take-length, drop-length, drop-cons}
@@ -18,7 +19,9 @@ use Rattle.hub_base.specs.Value.{content, number_in, saying, value_of}
 use Rattle.hub_base.proofs.Values.{every_value}
 use Rattle.hub_core.specs.declared.brief.Brief.{Brief}
 use Rattle.hub_core.specs.declared.brief.Brief.TheVariants as brief
-use Rattle.hub_core.specs.LogView.{AreBriefs, BeginsAt, IsBriefOf, IsWhole, StandFrom, case_count, cases_beside, entry_of, first_of, own_of, written}
+use Rattle.hub_core.specs.declared.log.Log.TheInside.{Inside}
+use Rattle.hub_core.specs.LogKeeps.{log_shown}
+use Rattle.hub_core.specs.LogView.{AreBriefs, LogView, BeginsAt, IsBriefOf, IsWhole, StandFrom, case_count, cases_beside, entry_of, first_of, own_of, written}
 
 -- a value that is a number
 pub number_again : (v : Value) (n : ℕ) → number_in (content v) ≡ Some n → value_of n ≡ v
@@ -136,6 +139,14 @@ gains {bs} {more} {grown} {cs} {cs'} {ds} {b} {first} e are grown_is kept behind
       items = λ whole. ap (λ (es : List Entry). whole ++ es) spelled ∙ sym (append_assoc whole (written bs cs) (e ∷ []));
     }
 
+-- there is room for it when all are written out
+pub room_for_more : {n : ℕ} {v : LogView} (l : Inside) → n ≡ length l.briefs.items + 1 → log_shown l ≡ v → length v.items < v.capacity
+    → vec_len l.whole + n ≤ vec_capacity l.whole
+room_for_more l one is room =
+    let items = ap (λ (w : LogView). length w.items) is in
+    let capacity = ap (λ (w : LogView). w.capacity) is in
+    omega (arith, one, room, items, capacity, l.whole.ok, all_length l.whole.items l.briefs.items l.cases.items)
+
 -- ---- the loop that writes them out
 
 -- the briefs and cases that are left at a place
@@ -241,9 +252,3 @@ gains_beside {bs} {more} {cs} {cs'} {ds} e cases default word first count are is
     let kept : IsBriefOf e first b =
     subst (λ (s : Step). IsBriefOf (record { pid = e.pid; step = s }) first b) (sym is) (record { again = refl; count = many; begins = refl }) in
     gains e are refl kept behind more_is (own ∙ sym (ap (λ (s : Step). cases_or s []) is)) few longer
-
--- the one case of a list that has no other
-pub only_case : (cases : List Case) (k : Case) → 1 ≤ length cases → length cases < 2 → k ≡ slice_index_or cases 0 k → k ∷ [] ≡ cases
-only_case [] k some few is = absurd (omega (arith, some))
-only_case (x ∷ []) k some few is = ap (λ (y : Case). y ∷ []) is
-only_case (x ∷ y ∷ cases) k some few is = absurd (omega (arith, few))

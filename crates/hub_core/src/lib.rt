@@ -1,6 +1,7 @@
 //! The step function of a hub: a machine, the hub with its journal, and runs of steps.
 #![tactic(auto)]
 
+mod beside;
 mod brief;
 mod closing;
 mod firing;

@@ -9,6 +9,7 @@ ghost use Rattle.std.specs.Prelude.{◌≡◌, ◌≤◌, ◌<◌, ◌+◌, ◌+
 ghost use Rattle.std.specs.Vec.{vec_capacity};
 ghost use Rattle.hub_core.specs.LogView.{FitsShort, HasRoomFor, places_asked};
 
+use crate::beside::put_beside;
 use crate::brief::{
     Brief, append_cases, brief_of, brief_of_plain, cases_beside, short_at, write_out,
 };
@@ -180,32 +181,20 @@ impl Log {
     }
 
     /// Appends an entry, which is kept short where there is memory for that. An exit asks for none.
+    #[inline(always)]
     pub(crate) fn push_short(&mut self, entry: &EntryRef<'_>)
         requires room { length self.old.items < self.old.capacity }
         ensures items { self.new.items ≡ self.old.items ++ entry.now ∷ [] }
         ensures capacity { self.new.capacity ≡ self.old.capacity }
         ensures short { FitsShort self.old entry.now → self.new.short ≡ self.old.short + 1 }
     {
-        if !self.keeps_plain(entry) {
-            self.push_beside(entry);
-        }
-    }
-
-    /// The same of any entry. It stands in a function of its own, as does the next, so that a plain send or receive does not pay
-    /// for what it does not need.
-    #[inline(never)]
-    fn push_beside(&mut self, entry: &EntryRef<'_>)
-        requires room { length self.old.items < self.old.capacity }
-        ensures items { self.new.items ≡ self.old.items ++ entry.now ∷ [] }
-        ensures capacity { self.new.capacity ≡ self.old.capacity }
-        ensures short { FitsShort self.old entry.now → self.new.short ≡ self.old.short + 1 }
-    {
-        if !self.keeps_one(entry) {
+        if !self.keeps_plain(entry) && !self.keeps_call(entry) {
             self.push_any(entry);
         }
     }
 
-    /// The same.
+    /// The same of any entry. It stands in a function of its own, so that a call that is kept at once does not pay for what it does
+    /// not need.
     #[inline(never)]
     fn push_any(&mut self, entry: &EntryRef<'_>)
         requires room { length self.old.items < self.old.capacity }
@@ -218,9 +207,9 @@ impl Log {
         }
     }
 
-    /// Appends a call of one case, which stands beside, and keeps it short, if there are places enough. It asks for no memory.
+    /// Appends a call whose cases stand beside, and keeps it short, if there are places enough. It asks for no memory.
     #[inline(always)]
-    fn keeps_one(&mut self, entry: &EntryRef<'_>) -> bool
+    fn keeps_call(&mut self, entry: &EntryRef<'_>) -> bool
         requires room { length self.old.items < self.old.capacity }
         ensures items { result ≡ true → self.new.items ≡ self.old.items ++ entry.now ∷ [] }
         ensures same { result ≡ false → self.new ≡ self.old }
@@ -235,24 +224,21 @@ impl Log {
         else {
             return false;
         };
-        let [case] = cases.as_slice() else {
-            return false;
-        };
-        let Ok(first) = u32::try_from(self.cases.len()) else {
-            return false;
-        };
-        if self.briefs.capacity() - self.briefs.len() <= MOST_PROCS {
-            return false;
-        }
-        if self.cases.capacity() == self.cases.len() {
+        let beside = cases.as_slice();
+        // A comparison takes fewer instructions here than a conversion that may fail.
+        let first = self.cases.len();
+        if first > u32::MAX as usize
+            || self.cases.capacity() - first < beside.len()
+            || self.briefs.capacity() - self.briefs.len() <= MOST_PROCS
+        {
             return false;
         }
-        self.cases.push_reserved(*case);
+        put_beside(&mut self.cases, beside);
         self.briefs.push_reserved(Brief::Call {
             pid: entry.pid,
             default,
-            count: 1,
-            first,
+            count: beside.len() as u8,
+            first: first as u32,
             word,
         });
         true

@@ -1,15 +1,13 @@
 //! What C asks for: the values and the cases that structs say.
 
-ghost use Rattle.std.specs.Prelude.{◌≡◌, ◌≤◌, ◌<◌, ◌++◌, ◌∷◌, [], length, map, take};
-ghost use Rattle.std.specs.List.{list_all};
+ghost use Rattle.std.specs.Prelude.{◌≡◌, ◌≤◌, ◌<◌, length, map, take, true};
 ghost use Rattle.hub_base.specs.declared.limits.TheConstants.{CASE_PLACES, MOST_VALUE_BYTES};
 ghost use Rattle.hub_base.specs.Head.{has_value};
 ghost use Rattle.hub_base.specs.Value.{bytes_of};
 ghost use Rattle.hub_session.specs.Structs.{are_cases_of, case_in, is_case, is_true, is_value, suits, value_in};
 
 use crate::structs::{CaseC, ValueC};
-use arrayvec::ArrayVec;
-use hub_base::{CASE_PLACES, Case, Edition, MOST_VALUE_BYTES, Port, Value};
+use hub_base::{Case, Edition, MOST_VALUE_BYTES, Port, Value};
 
 /// Whether a number that comes from C is true: any but 0 is.
 #[inline(always)]
@@ -35,16 +33,27 @@ fn bytes_in(value: &ValueC) -> &[u8]
     &value.bytes[..usize::from(value.length).min(MOST_VALUE_BYTES)]
 }
 
-/// The value that a struct says.
-pub(crate) fn value_in(value: &ValueC) -> Value
+/// The value of a struct that says bytes. It is apart from a number, since a value that may be either is put together from both,
+/// byte by byte.
+#[inline(always)]
+pub(crate) fn bytes_value(value: &ValueC) -> Value
+    requires { is_true value.now.is_bytes ≡ true }
     ensures { result ≡ value_in value.now }
 {
-    if !is_true(value.is_bytes) {
-        return Value::num(value.number);
-    }
     match Value::bytes(bytes_in(value)) {
         Some(value) => value,
         None => unreachable!(),
+    }
+}
+
+/// The value that a struct says.
+fn value_in(value: &ValueC) -> Value
+    ensures { result ≡ value_in value.now }
+{
+    if is_true(value.is_bytes) {
+        bytes_value(value)
+    } else {
+        Value::num(value.number)
     }
 }
 
@@ -92,47 +101,37 @@ fn suits(edition: Edition, case: &CaseC) -> bool
     is_value(&case.value) && has_bytes(edition, bytes_in(&case.value))
 }
 
-/// Whether each of them is.
+/// Puts the case that a struct says into a place. A receive is short: nothing stands in the place of a value, so none is copied;
+/// and a number is written where it goes, without a way by bytes that it might have been.
 #[inline(always)]
-fn all_suit(edition: Edition, cases: &[CaseC]) -> bool
-    ensures { result ≡ list_all (suits edition) cases.now }
-{
-    cases.iter().all(|case| suits(edition, case))
-}
-
-/// Whether they are the cases of one call, and ones that a journal of this edition can have. Both is asked in one pass.
-#[inline(always)]
-pub(crate) fn are_cases_of(edition: Edition, cases: &[CaseC]) -> bool
-    ensures { result ≡ are_cases_of edition cases.now }
-{
-    cases.len() <= CASE_PLACES && all_suit(edition, cases)
-}
-
-/// Puts the case that a struct says behind those of a list with room for it. A receive is short: nothing stands in the place
-/// of a value, so none is copied; and a number is written where it goes, without a way by bytes that it might have been.
-#[inline(always)]
-fn put_case<const PLACES: usize>(case: &CaseC, list: &mut ArrayVec<Case, PLACES>)
-    requires { length list.old.items < PLACES }
-    ensures { list.new.items ≡ list.old.items ++ case_in case.now ∷ [] }
+fn put_case(case: &CaseC, place: &mut Case)
+    ensures { place.new ≡ case_in case.now }
 {
     let port = Port(case.port);
     if !is_true(case.sends) {
-        list.push(Case::Recv(port));
+        *place = Case::Recv(port);
     } else if is_true(case.value.is_bytes) {
-        list.push(Case::Send(port, value_in(&case.value)));
+        *place = Case::Send(port, bytes_value(&case.value));
     } else {
-        list.push(Case::Send(port, Value::num(case.value.number)));
+        *place = Case::Send(port, Value::num(case.value.number));
     }
 }
 
-/// Puts the cases that these structs say into an empty list with room for them.
+/// Puts the cases that these structs say into places for them, up to the first that a journal of this edition cannot have: whether
+/// there is no such case. So each struct is looked at once.
 #[inline(always)]
-pub(crate) fn put_cases<const PLACES: usize>(cases: &[CaseC], list: &mut ArrayVec<Case, PLACES>)
-    requires few { length cases.now ≤ PLACES }
-    requires empty { list.old.items ≡ [] }
-    ensures { list.new.items ≡ map case_in cases.now }
+pub(crate) fn take_cases(edition: Edition, cases: &[CaseC], places: &mut [Case]) -> bool
+    requires few { length cases.now ≤ length places.old }
+    requires within { length places.old ≤ CASE_PLACES }
+    ensures all { result ≡ are_cases_of edition cases.now }
+    ensures items { result ≡ true → take (length cases.now) places.new ≡ map case_in cases.now }
+    ensures count { length places.new ≡ length places.old }
 {
-    for case in cases {
-        put_case(case, list);
+    for (i, case) in cases.iter().enumerate() {
+        if !suits(edition, case) {
+            return false;
+        }
+        put_case(case, &mut places[i]);
     }
+    true
 }

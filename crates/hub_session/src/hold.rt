@@ -2,7 +2,7 @@
 //!
 //! C has room for the struct and leaves its members alone. One of zeros holds nothing.
 
-ghost use Rattle.std.specs.Prelude.{◌≡◌, Option, None, Some, option_map};
+ghost use Rattle.std.specs.Prelude.{◌≡◌, IfErr, IfOk, Option, None, Some, option_map};
 ghost use Rattle.hub_session.specs.Held.{is_held, owned};
 ghost use Rattle.hub_session.specs.declared.session.Session.{Session};
 
@@ -87,6 +87,24 @@ impl HubC {
         match replace(self, HubC::none(alloc)).into_loose() {
             Some(session) => Some(session.into_box()),
             None => None,
+        }
+    }
+
+    /// Holds the hub that was opened, and returns 0; where that was refused, holds none and returns the number of what refused it.
+    /// One that was held before ends.
+    pub fn put_in_opened(&mut self, alloc: Global, opened: Result<Box<Session>, u8>) -> u8
+        ensures ok { IfOk opened (λ b. (self.new.session ≡ Some b.value) × (result ≡ 0)) }
+        ensures err { IfErr opened (λ refusal. (self.new.session ≡ None) × (result ≡ refusal)) }
+    {
+        match opened {
+            Ok(session) => {
+                self.put_in(session);
+                0
+            }
+            Err(refusal) => {
+                self.end(alloc);
+                refusal
+            }
         }
     }
 

@@ -12,7 +12,7 @@ use hub_chain::ChainFault;
 use hub_core::OpenFault;
 use hub_cut::MOST_KEEP;
 use hub_follow::AfterDivergence;
-use std::alloc::{AllocError, Global};
+use std::alloc::Global;
 
 /// A value that may be used by one thread and then by another.
 fn crossing<T: Send>(value: T) -> T
@@ -21,14 +21,15 @@ fn crossing<T: Send>(value: T) -> T
     value
 }
 
-/// It on the heap. That all within it may be used by one thread and then by another takes a proof half a minute, so it is shown
-/// here alone.
-fn boxed(alloc: Global, session: Session) -> Result<Box<Session>, AllocError>
-    ensures { IfOk result (λ b. b.value ≡ session) }
+/// A session on the heap, or the number that says that memory was refused. That all within it may be used by one thread and then by
+/// another takes a proof half a minute, so it is shown here alone.
+fn boxed(alloc: Global, session: Session) -> Result<Box<Session>, u8>
+    ensures ok { IfOk result (λ b. b.value ≡ session) }
+    ensures err { IfErr result (λ number. number ≡ REFUSED_MEMORY) }
 {
     match Box::new(alloc, session) {
         Ok(place) => Ok(crossing(place)),
-        Err(_refused) => Err(AllocError),
+        Err(_refused) => Err(REFUSED_MEMORY),
     }
 }
 
@@ -101,11 +102,7 @@ pub fn open_box(alloc: Global, edition: u8, procs: u8, limit: u32) -> Result<Box
     ensures ok { IfOk result (λ b. IsNew edition procs limit b.value) }
     ensures err { IfErr result (λ number. IsRefusedSo edition procs limit number) }
 {
-    let session = open_session(alloc, edition, procs, limit)?;
-    match boxed(alloc, session) {
-        Ok(place) => Ok(place),
-        Err(AllocError) => Err(REFUSED_MEMORY),
-    }
+    boxed(alloc, open_session(alloc, edition, procs, limit)?)
 }
 
 /// The same of a hub that never ends, which cuts a chapter once it has `keep` steps behind its checkpoint, exits not counted, 1
@@ -122,11 +119,10 @@ pub fn open_endless_box(
     ensures ok { IfOk result (λ b. IsNewEndless edition procs keep hands_out b.value) }
     ensures err { IfErr result (λ number. IsRefusedEndless edition procs keep number) }
 {
-    let session = open_endless_session(alloc, edition, procs, keep, hands_out)?;
-    match boxed(alloc, session) {
-        Ok(place) => Ok(place),
-        Err(AllocError) => Err(REFUSED_MEMORY),
-    }
+    boxed(
+        alloc,
+        open_endless_session(alloc, edition, procs, keep, hands_out)?,
+    )
 }
 
 /// What comes after a divergence.
@@ -185,6 +181,6 @@ pub fn open_following_box(
     let session = open_following_session(alloc, text, goes_on)?;
     match boxed(alloc, session) {
         Ok(place) => Ok(place),
-        Err(AllocError) => Err(follow_refused(ChainFault::NoMemory)),
+        Err(_memory) => Err(follow_refused(ChainFault::NoMemory)),
     }
 }

@@ -7,6 +7,7 @@ ghost use Rattle.hub_base.specs.Head.{has_case, is_of};
 ghost use Rattle.hub_base.specs.Lines.{by};
 ghost use Rattle.hub_base.specs.Notation.{recv, select, send};
 ghost use Rattle.hub_base.specs.declared.case.Case.TheVariants.{Send};
+ghost use Rattle.hub_base.specs.declared.limits.TheConstants.{CASE_PLACES};
 ghost use Rattle.hub_cut.specs.Recorder.{head_of_all};
 ghost use Rattle.hub_session.specs.Hubs.{head_in};
 ghost use Rattle.hub_session.specs.declared.session.Opened.TheVariants.{Endless};
@@ -14,20 +15,19 @@ ghost use Rattle.hub_session.specs.Steps.{Serves, ServesIn, ServesOpened, StepsI
 ghost use Rattle.hub_session.specs.Structs.{call_of, is_true, send_of, value_in};
 ghost use Rattle.hub_session.specs.Tells.{bits_of};
 
-use crate::asking::{are_cases_of, case_in, is_case, is_true, is_value, put_cases, value_in};
+use crate::asking::{bytes_value, case_in, is_case, is_true, is_value, take_cases};
 use crate::following::step_following;
 use crate::session::{Opened, Session};
 use crate::structs::{CaseC, ToldC, ValueC};
 use crate::telling::{bits_of, tell_bad_call, tell_made, tell_nothing, tell_refused, tell_what};
-use arrayvec::ArrayVec;
 use hub_base::{
-    Case, CaseSlice, Cases, Entry, EntryRef, Event, Fault, Pid, Port, Step, StepRef, Value,
+    CASE_PLACES, Case, CaseSlice, Entry, EntryRef, Event, Fault, Pid, Port, Step, StepRef, Value,
 };
 use hub_core::ShortHub;
 use hub_endless::EndlessHub;
 use hub_live::under_lock::Locked;
 
-/// How many cases a short list has room for.
+/// How many places there are for a call of few cases.
 const FEW_CASES: usize = 4;
 
 /// The entry of a process that makes this step.
@@ -197,65 +197,59 @@ impl Session {
         }
     }
 
-    /// Makes a call of these cases, which stand in a list and which the hub's edition has.
+    /// Makes a call of these cases, which the hub's edition has.
     #[inline(always)]
-    fn call_listed(
-        &mut self,
-        pid: u8,
-        cases: CaseSlice<'_>,
-        default: u8,
-        word: u64,
-        told: &mut ToldC,
-    )
-        requires fits { list_all (has_case (head_in self.old.hub).edition) cases.items ≡ true }
-        ensures { ServesIn self.old (select pid word cases.entry.items (is_true default)) self.new told.new }
+    fn call_listed(&mut self, pid: u8, cases: &[Case], default: u8, word: u64, told: &mut ToldC)
+        requires few { length cases.now ≤ CASE_PLACES }
+        requires fits { list_all (has_case (head_in self.old.hub).edition) cases.now ≡ true }
+        ensures { ServesIn self.old (select pid word cases.now (is_true default)) self.new told.new }
     {
         let step = Step::Call {
-            cases,
+            cases: CaseSlice::few(cases),
             default: is_true(default),
             word,
         };
         self.serve(&entry_by(pid, step), told);
     }
 
-    /// Makes a call of so few cases that a short list has room for them: a list is filled when it is made.
+    /// Makes a call of so few cases that a few places are enough for them: each place that there is has to be filled first.
     #[inline(never)]
     fn call_few(&mut self, pid: u8, cases: &[CaseC], default: u8, word: u64, told: &mut ToldC)
         requires few { length cases.now ≤ FEW_CASES }
         ensures { StepsSaid self.old (call_of pid cases.now default word) self.new told.new }
     {
-        if !are_cases_of(self.hub.head().edition, cases) {
+        let mut places = [Case::default(); FEW_CASES];
+        if !take_cases(self.hub.head().edition, cases, &mut places) {
             tell_bad_call(told);
             return;
         }
-        let mut list = ArrayVec::<Case, FEW_CASES>::new();
-        put_cases(cases, &mut list);
-        self.call_listed(pid, CaseSlice::few(list.as_slice()), default, word, told);
+        self.call_listed(pid, &places[..cases.len()], default, word, told);
     }
 
     /// Makes a call of many cases.
     #[inline(never)]
     fn call_many(&mut self, pid: u8, cases: &[CaseC], default: u8, word: u64, told: &mut ToldC)
+        requires few { length cases.now ≤ CASE_PLACES }
         ensures { StepsSaid self.old (call_of pid cases.now default word) self.new told.new }
     {
-        if !are_cases_of(self.hub.head().edition, cases) {
+        let mut places = [Case::default(); CASE_PLACES];
+        if !take_cases(self.hub.head().edition, cases, &mut places) {
             tell_bad_call(told);
             return;
         }
-        let mut list = Cases::new();
-        put_cases(cases, &mut list);
-        self.call_listed(pid, CaseSlice::of(&list), default, word, told);
+        self.call_listed(pid, &places[..cases.len()], default, word, told);
     }
 
     /// Makes a call of these cases, with a default unless `default` is 0. It is told as a bad call, and nothing is done, if they are
-    /// more than `CASE_PLACES`, or if one is no case or not one of the hub's edition. No list is made for one case.
+    /// more than `CASE_PLACES`, or if one is no case or not one of the hub's edition.
     pub fn call(&mut self, pid: u8, cases: &[CaseC], default: u8, word: u64, told: &mut ToldC)
         ensures { StepsSaid self.old (call_of pid cases.now default word) self.new told.new }
     {
         match cases {
             [case] => self.call_one(pid, case, default, word, told),
             _ if cases.len() <= FEW_CASES => self.call_few(pid, cases, default, word, told),
-            _ => self.call_many(pid, cases, default, word, told),
+            _ if cases.len() <= CASE_PLACES => self.call_many(pid, cases, default, word, told),
+            _ => tell_bad_call(told),
         }
     }
 
@@ -271,9 +265,10 @@ impl Session {
     /// Sends bytes on a port.
     #[inline(never)]
     fn send_bytes(&mut self, pid: u8, port: u16, value: &ValueC, told: &mut ToldC)
+        requires { is_true value.now.is_bytes ≡ true }
         ensures { StepsIn self.old (select pid 0 (Send (record { 0 = port }) (value_in value.now) ∷ []) false) self.new told.new }
     {
-        let case = Case::Send(Port(port), value_in(value));
+        let case = Case::Send(Port(port), bytes_value(value));
         self.call_any(pid, &case, false, 0, told);
     }
 

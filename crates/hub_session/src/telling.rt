@@ -1,7 +1,6 @@
 //! What is told to C.
 
-ghost use Rattle.std.specs.Prelude.{◌≡◌, ◌≤◌, ℕ, Err, None, Ok, length};
-ghost use Rattle.hub_base.specs.Content.{padded};
+ghost use Rattle.std.specs.Prelude.{◌≡◌, ℕ, Err, None, Ok};
 ghost use Rattle.hub_base.specs.Content.Content.{Num};
 ghost use Rattle.hub_base.specs.Value.{content, number_in};
 ghost use Rattle.hub_session.specs.Structs.{told_as, value_told};
@@ -25,31 +24,16 @@ fn say_number(number: u64, said: &mut ValueC)
     said.bytes = [0; MOST_VALUE_BYTES];
 }
 
-/// These bytes, with zeros behind them.
-fn padded(bytes: &[u8]) -> [u8; MOST_VALUE_BYTES]
-    requires { length bytes.now ≤ MOST_VALUE_BYTES }
-    ensures { result ≡ padded bytes.now }
-{
-    // Most bytes that are sent fill their places, and are then copied without a loop.
-    if let Ok(places) = <[u8; MOST_VALUE_BYTES]>::try_from(bytes) {
-        return places;
-    }
-    let mut places = [0; MOST_VALUE_BYTES];
-    places[..bytes.len()].copy_from_slice(bytes);
-    places
-}
-
 /// Says a value that is bytes.
-#[inline(never)]
+#[inline(always)]
 fn say_bytes(value: &Value, said: &mut ValueC)
     requires { number_in (content value.now) ≡ None }
     ensures { said.new ≡ value_told value.now }
 {
-    let bytes = value.as_bytes();
     said.number = 0;
     said.is_bytes = 1;
-    said.length = bytes.len() as u8;
-    said.bytes = padded(bytes);
+    said.length = value.len();
+    said.bytes = *value.padded_bytes();
 }
 
 /// Says a value.

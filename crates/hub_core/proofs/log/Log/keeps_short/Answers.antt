@@ -1,7 +1,7 @@
 use Rattle.std.proofs.Common.{◌≡◌, ◌∙◌, ◌++◌, ◌∷◌, [], List, ap, length, arith}
 use Rattle.hub_base.specs.Entry.{Entry}
 use Rattle.hub_core.specs.LogView.{LogView}
-use Rattle.hub_core.proofs.Logs.{all_length, gains}
+use Rattle.hub_core.proofs.Logs.{gains, room_for_more}
 use Rattle.hub_core.proofs.log.Log.keeps_short.Goals as goal
 
 pub invariant_of-self-2 : goal.invariant_of-self-2
@@ -14,15 +14,7 @@ invariant_of-self-2 c =
     record {
       briefs = more.briefs;
       begin = more.begin c.self.invariant.begin;
-      room = omega (
-        arith,
-        more.one,
-        c.requires.room,
-        ap (λ (v : LogView). length v.items) v,
-        ap (λ (v : LogView). v.capacity) v,
-        c.self.inside.whole.ok,
-        all_length c.self.inside.whole.items c.self.inside.briefs.items c.self.inside.cases.items,
-      );
+      room = room_for_more c.self.inside more.one v c.requires.room;
     }
 
 pub returns-clause-items : goal.returns-clause-items

@@ -65,7 +65,7 @@ impl CountedBoard {
     }
 
     /// A send that can proceed: to the oldest receiver that waits, or else into the buffer.
-    #[inline]
+    #[inline(always)]
     fn send<E: Hears>(&mut self, events: &mut E, caller: Caller, port: Port, value: &Value)
         requires may { MayFire self.old.board self.old.tallies port (E.room events.old) }
         requires can { SendFits self.old.board port }
@@ -92,7 +92,7 @@ impl CountedBoard {
     }
 
     /// A receive from a sender that waits, whose call has ended. Its value comes in behind those in the buffer.
-    #[inline]
+    #[inline(always)]
     fn let_in<E: Hears>(&mut self, events: &mut E, caller: Caller, port: Port, sender: &Ended)
         requires may { MayFire self.old.board self.old.tallies port (E.room events.old) }
         requires sends { passes port side.Send sender.now.case ≡ true }
@@ -120,7 +120,7 @@ impl CountedBoard {
     }
 
     /// The oldest value of the buffer, where no sender waits.
-    #[inline]
+    #[inline(always)]
     fn take_value<E: Hears>(&mut self, events: &mut E, caller: Caller, port: Port)
         requires { MayFire self.old.board self.old.tallies port (E.room events.old) }
         ensures fires { Fires self.new.board self.new.tallies (take_on self.old.board self.old.tallies port) }
@@ -136,7 +136,7 @@ impl CountedBoard {
     }
 
     /// A receive: from the oldest sender that waits, or else from the buffer.
-    #[inline]
+    #[inline(always)]
     fn receive<E: Hears>(&mut self, events: &mut E, caller: Caller, port: Port)
         requires { MayFire self.old.board self.old.tallies port (E.room events.old) }
         ensures fires { Fires self.new.board self.new.tallies (recv_on self.old.board self.old.tallies port) }
@@ -148,8 +148,22 @@ impl CountedBoard {
         }
     }
 
+    /// A case that was chosen among others fires, as `fire` tells. It stands apart, so that the compiler knows the index of a call's
+    /// only case.
+    #[inline(never)]
+    pub(crate) fn fire_chosen<E: Hears>(&mut self, events: &mut E, caller: Caller, case: &Case)
+        requires named { IsNamed self.old.board case.now }
+        requires keep { PortsKeep self.old.board self.old.tallies }
+        requires can { can_on self.old.board case.now ≡ true }
+        requires room { 1 < E.room events.old }
+        ensures fires { Fires self.new.board self.new.tallies (fire_on self.old.board self.old.tallies case.now) }
+        ensures told { HearsFiring E.heard E.room events.old events.new caller (fire_on self.old.board self.old.tallies case.now) }
+    {
+        self.fire(events, caller, case);
+    }
+
     /// A case that can proceed fires: the caller is told, and then the waiting call that ended with it.
-    #[inline]
+    #[inline(always)]
     pub(crate) fn fire<E: Hears>(&mut self, events: &mut E, caller: Caller, case: &Case)
         requires named { IsNamed self.old.board case.now }
         requires keep { PortsKeep self.old.board self.old.tallies }

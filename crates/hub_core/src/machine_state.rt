@@ -174,7 +174,12 @@ impl MachineState {
                     pid,
                     index: chosen.index,
                 };
-                self.counted.fire(events, caller, chosen.case);
+                // The index of an only case is known to be 0, so its way is a shorter one.
+                if cases.as_slice().len() == 1 {
+                    self.counted.fire(events, caller, chosen.case);
+                } else {
+                    self.counted.fire_chosen(events, caller, chosen.case);
+                }
             }
         }
     }
@@ -258,10 +263,14 @@ impl MachineState {
                 cases,
                 default,
                 word,
-            } => match call_fault(self.head.edition, board, cases.as_slice()) {
-                None => self.call(pid, cases, *default, *word, events),
-                Some(fault) => tell_fault(pid, fault, events),
-            },
+            } => {
+                // This slice is what is passed on, so that the compiler need not keep the entry itself in memory.
+                let cases = CaseSlice::few(cases.as_slice());
+                match call_fault(self.head.edition, board, cases.as_slice()) {
+                    None => self.call(pid, &cases, *default, *word, events),
+                    Some(fault) => tell_fault(pid, fault, events),
+                }
+            }
             Step::Close(port) => match close_fault(board, *port) {
                 None => self.close(pid, *port, events),
                 Some(fault) => tell_fault(pid, fault, events),

@@ -5,7 +5,7 @@ use Rattle.std.proofs.Common.{append_assoc, append-nil, length-append}
 use Rattle.std.proofs.lemmas.Grind.{common_steps}
 use Rattle.std.proofs.lemmas.Fmt.{decimal_digit, first_decimal, decimal_nonempty}
 use Rattle.std.proofs.lemmas.Int.Digits.{digits_value_push}
-use Rattle.std.proofs.lemmas.List.{get_or_append_left, take-append-drop}
+use Rattle.std.proofs.lemmas.List.{get_or_append_left}
 use Rattle.std.proofs.lemmas.List.Folds.{list_all-append}
 use Rattle.std.proofs.lemmas.Str.{digit_value_digit}
 use Rattle.std.specs.Fmt.{decimal}
@@ -26,7 +26,7 @@ use Rattle.hub_base.specs.Head.{has_bytes, has_content, has_case, is_of}
 use Rattle.hub_base.specs.declared.value.Port.{Port}
 use Rattle.hub_base.specs.declared.value.Value.{Value}
 use Rattle.hub_base.specs.declared.limits.TheConstants.{MOST_VALUE_BYTES}
-use Rattle.hub_base.specs.Content.{padded, is_stored, IsContent}
+use Rattle.hub_base.specs.Content.{IsContent}
 use Rattle.hub_base.specs.Value.{bytes_of, value_field, field_of}
 use Rattle.hub_base.specs.Content.Content.{Bytes}
 use Rattle.std.proofs.Common.{replicate, set, slice_index, slice_set}
@@ -34,7 +34,7 @@ use Rattle.std.proofs.lemmas.Grind.{take-set_at}
 use Rattle.std.proofs.lemmas.List.{drop-replicate, drop-set-lt, length-set}
 use Rattle.hex.specs.Hex.{IsBytes, encode_lower, encode_with, lower_digits}
 use Rattle.hub_text.proofs.HexDigits.{bytes-push, digit-hex, encode-push}
-use Rattle.hub_base.proofs.Values.{bytes-stored, content-saying, is-value, padded_is}
+use Rattle.hub_base.proofs.Values.{content-saying, is-value}
 use Rattle.hub_text.specs.Writing.{spaced, spaced_cases}
 use Rattle.hub_base.specs.Lines.{line, step_fields, case_field, call, call_fields, select_fields, default_field, spelled, is_hex}
 use Rattle.hub_text.specs.Quick.{EndsLine, Stands, GoesOn, ValueStands, SendStands, RecvStands, CaseStands, CasesStand}

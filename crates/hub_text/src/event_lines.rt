@@ -201,7 +201,11 @@ fn put_value(out: &mut [u8], at: usize, value: &Value) -> usize
 {
     match value.as_num() {
         Some(number) => put_large(out, at, number),
-        None => put_bytes(out, at, value),
+        // A copy is what is passed on, so that a number need not lie in memory.
+        None => {
+            let copy = *value;
+            put_bytes(out, at, &copy)
+        }
     }
 }
 

@@ -157,21 +157,20 @@ fn bytes_at(bytes: &[u8], start: usize) -> (Value, usize)
     ensures { (edition : Edition) → has_bytes edition ≡ true
         → ValueStands edition bytes.now start result.0 result.1 }
 {
+    let first = start + 1;
     let mut places = [0; MOST_VALUE_BYTES];
     let mut len = 0;
-    let mut end = start + 1;
     // Digits that are too many, or lack their second, are left there, where the caller wants another mark.
-    let most = (end + 2 * MOST_VALUE_BYTES).min(bytes.len());
-    while end + 1 < most {
-        let Some(byte) = byte_of(bytes[end], bytes[end + 1]) else {
+    let most = ((bytes.len() - first) / 2).min(MOST_VALUE_BYTES);
+    while len < most {
+        let Some(byte) = byte_of(bytes[first + 2 * len], bytes[first + 2 * len + 1]) else {
             break;
         };
         places[len] = byte;
         len += 1;
-        end += 2;
     }
     match Value::bytes(&places[..len]) {
-        Some(value) => (value, end),
+        Some(value) => (value, first + 2 * len),
         None => unreachable!(),
     }
 }

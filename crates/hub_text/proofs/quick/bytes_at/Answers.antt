@@ -1,36 +1,43 @@
-use Rattle.std.proofs.Common.{◌≡◌, ◌<◌, ◌+◌, ◌*◌, ◌/◌, ◌%◌, ℕ, arith, refl, set, subst}
+use Rattle.std.proofs.Common.{◌≡◌, ◌<◌, ◌+◌, ◌*◌, ◌/◌, ◌%◌, ℕ, arith, refl, replicate, set, subst}
 use Rattle.hub_base.specs.declared.limits.TheConstants.{MOST_VALUE_BYTES}
 use Rattle.hub_text.proofs.QuickLines.{Decoded, decoded-push, decoded-few, decoded-value, mark-stands}
 use Rattle.hub_text.proofs.quick.bytes_at.Goals as goal
 
-pub loop-end-init : goal.loop-end-init
-loop-end-init c = record {
-  so_far = mark-stands c.args.bytes.now c.args.start c.requires.line c.requires.start c.requires.mark;
-  place = omega arith;
-}
+pub loop-len-init : goal.loop-len-init
+loop-len-init c =
+    let none : c.args.start + 1 ≡ c.args.start + 1 + 2 * 0 = omega arith in
+    record {
+      so_far = subst (λ (e : ℕ). Decoded c.args.bytes.now c.args.start 0 (replicate MOST_VALUE_BYTES 0) e) none
+          (mark-stands c.args.bytes.now c.args.start c.requires.line c.requires.start c.requires.mark);
+      most = omega arith;
+    }
 
-pub loop-end-preserved : goal.loop-end-preserved
-loop-end-preserved c =
-    let so = c.loop-end in
+pub loop-len-preserved : goal.loop-len-preserved
+loop-len-preserved c =
+    let so = c.loop-len in
+    let end : ℕ = c.args.start + 1 + 2 * so.len in
     let byte : ℕ = c.in-Some.byte in
     let digits = c.in-Some.ensures in
-    let room : so.len < MOST_VALUE_BYTES = omega (arith, so.invariant.place, c.loop-end-test.true, c.min-most.ensures) in
+    let room : so.len < MOST_VALUE_BYTES = omega (arith, c.loop-len-test.true, c.min-most.ensures) in
     let whole : byte / 16 * 16 + byte % 16 ≡ byte = omega arith in
-    let pushed = decoded-push c.args.bytes.now c.args.start so.len so.places so.end (byte / 16) (byte % 16) c.requires.line so.invariant.so_far
+    let further : end + 2 ≡ c.args.start + 1 + 2 * (so.len + 1) = omega arith in
+    let pushed = decoded-push c.args.bytes.now c.args.start so.len so.places end (byte / 16) (byte % 16) c.requires.line so.invariant.so_far
     room (let small = c.in-Some.byte in omega arith) digits.0 (omega arith) digits.1 in
     record {
-      so_far = subst (λ (b : ℕ). Decoded c.args.bytes.now c.args.start (so.len + 1) (set so.places so.len b) (so.end + 2)) whole pushed;
-      place = omega (arith, so.invariant.place);
+      so_far = subst (λ (e : ℕ). Decoded c.args.bytes.now c.args.start (so.len + 1) (set so.places so.len byte) e) further
+          (subst (λ (b : ℕ). Decoded c.args.bytes.now c.args.start (so.len + 1) (set so.places so.len b) (end + 2)) whole pushed);
+      most = omega (arith, c.loop-len-test.true);
     }
 
 pub unreachable-requires : goal.unreachable-requires
 unreachable-requires c =
-    let so = c.loop-end in
-    let few = decoded-few c.args.bytes.now c.args.start so.len so.places so.end so.invariant.so_far in
+    let so = c.loop-len in
+    let few = decoded-few c.args.bytes.now c.args.start so.len so.places (c.args.start + 1 + 2 * so.len) so.invariant.so_far in
     let many = c.in-None.ensures.none.0 refl in
     omega (arith, few, many)
 
 pub returns : goal.returns
 returns c edition has =
-    let so = c.loop-end in
-    decoded-value edition c.args.bytes.now c.args.start so.len so.places so.end c.in-Some-bytes.value has so.invariant.so_far c.in-Some-bytes.ensures.is
+    let so = c.loop-len in
+    decoded-value edition c.args.bytes.now c.args.start so.len so.places (c.args.start + 1 + 2 * so.len) c.in-Some-bytes.value has so.invariant.so_far
+    c.in-Some-bytes.ensures.is

@@ -1,6 +1,9 @@
-use Rattle.std.proofs.Common.{ap, ◌∙◌}
+use Rattle.std.proofs.Common.{ap, ◌≡◌, ◌∙◌, length, subst, sym}
+use Rattle.arrayvec.specs.ArrayVec.{ArrayVec}
+use Rattle.hub_base.specs.declared.case.Case.{Case}
 use Rattle.hub_base.specs.declared.entry.Step.TheVariants.{Make, Call, Close, Cancel}
 use Rattle.hub_core.specs.ListSteps.{call_fault_on}
+use Rattle.hub_parts.specs.Keeps.{AllMade}
 use Rattle.hub_core.proofs.Acting.{fault_is, may_take_effect, takes_effect, tells_fault, makes_or_not}
 use Rattle.hub_core.proofs.Reached.{call_named, ports_keep}
 use Rattle.hub_core.proofs.machine_state.MachineState.act.Goals as goal
@@ -22,9 +25,14 @@ returns-in-Some-clause-acts g c =
 
 pub call-requires-clause-named : goal.call-requires-clause-named
 call-requires-clause-named g c =
-    call_named c.args.self.now.edition c.args.self.now.board c.in-Call.cases.items
+    let items : c.few-cases.result.items ≡ c.in-Call.cases.items =
+    ap (λ (cases : ArrayVec Case). cases.items) c.few-cases.ensures ∙ c.as_slice.ensures.cases in
+    subst (AllMade (length c.args.self.now.board.ports)) (sym items)
+    (call_named c.args.self.now.edition c.args.self.now.board c.in-Call.cases.items
     (fault_is (Call c.in-Call.cases c.in-Call.default c.in-Call.word) c.self.view_is
-    (c.call_fault.ensures ∙ ap (call_fault_on c.self.inside.head.edition c.self.inside.counted.board) c.as_slice.ensures.cases) c.in-None-call_fault.is)
+    (c.call_fault.ensures
+    ∙ ap (call_fault_on c.self.inside.head.edition c.self.inside.counted.board) (c.as_slice-in-Call.ensures.cases ∙ items))
+    c.in-None-call_fault.is))
 
 pub call-requires-clause-keep : goal.call-requires-clause-keep
 call-requires-clause-keep g c = ports_keep c.args.self.now c.requires.may.reached c.requires.may.steps

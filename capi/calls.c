@@ -6,32 +6,9 @@
  */
 #include "hub.h"
 
-#include <string.h>
-
-enum { MOST_BYTES = 32 };
-
-chanhub_value chanhub_number(uint64_t number) {
-    return (chanhub_value){ .number = number };
-}
-
-/* The value that is bytes which fill their places, as most do: of a known length, they are copied without a call. */
-static inline chanhub_value full_bytes(const void *bytes) {
-    chanhub_value value = { .is_bytes = true, .length = MOST_BYTES };
-    memcpy(value.bytes, bytes, MOST_BYTES);
-    return value;
-}
-
-/* The value that is these bytes, or one that is refused, since they are too many. Apart from full bytes, which need no such
- * copy. */
-__attribute__((noinline)) static chanhub_value other_bytes(const void *bytes, size_t length) {
-    chanhub_value value = { .is_bytes = true, .length = (uint8_t)(length > MOST_BYTES ? MOST_BYTES + 1 : length) };
-    if (length && length < MOST_BYTES) memcpy(value.bytes, bytes, length);
-    return value;
-}
-
-chanhub_value chanhub_bytes(const void *bytes, size_t length) {
-    return length == MOST_BYTES ? full_bytes(bytes) : other_bytes(bytes, length);
-}
+/* What the header builds into callers, for those that look for it in the library. */
+extern inline chanhub_value chanhub_number(uint64_t number);
+extern inline chanhub_value chanhub_bytes(const void *bytes, size_t length);
 
 /* Whether a call of this process, or its exit, can begin: the fault if not, and then it leaves the lock. Holds the lock. */
 uint8_t look_closer(chanhub *h, unsigned pid, bool exits) {

@@ -10,6 +10,8 @@ cd "$(dirname "$0")/.." || exit 2
 library=$PWD/out
 . ../tools/checks.sh
 skipped=0
+# The tests of the Python module look for it there.
+if [ -e "$tool" ]; then export TOOL="$tool"; else unset TOOL; fi
 export CHANHUB_LIBRARY="$library/libchanhub.so" CHANHUB_LIB="$library" CARGO_TARGET_DIR="$work/target" PYTHONDONTWRITEBYTECODE=1
 # Each crate is built for one run, so nothing is kept for a debugger or for the next build.
 export CARGO_PROFILE_DEV_DEBUG=0 CARGO_INCREMENTAL=0

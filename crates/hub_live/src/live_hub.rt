@@ -20,10 +20,12 @@ use hub_base::{
 use std::sync::{Mutex, MutexGuard, Wait};
 
 /// How many loads a thread lets pass before it tries again for a lock that another holds: less than a step takes.
-const FIRST_PAUSE: u32 = 100;
+const FIRST_PAUSE: u32 = 200;
 
-/// Each pause is twice the one before, up to so many loads, so that whoever holds the lock can make some steps with the
-/// hub in its own cache.
+/// How many times as long the next pause is. Who still finds the lock held is one of several that want it again and again.
+const GROWTH: u32 = 4;
+
+/// The longest pause in loads, so that whoever holds the lock can make some steps with the hub in its own cache.
 const LONGEST_PAUSE: u32 = 3_200;
 
 /// How often a thread tries again before it sleeps: for some 40 microseconds.
@@ -148,7 +150,7 @@ impl<K: HubName> LiveHub<K> {
             if let Some(desk) = self.desk.try_lock() {
                 return desk;
             }
-            loads = loads.saturating_mul(2).min(LONGEST_PAUSE);
+            loads = loads.saturating_mul(GROWTH).min(LONGEST_PAUSE);
         }
         self.desk.lock(rt)
     }

@@ -306,6 +306,7 @@ def c_rows(programs):
     if has_valgrind():
         for name in C_COUNTED:
             yield Row(name + ', instructions of a call', [call_instructions(program, '1', name) for program in programs])
+        yield Row('alone_bytes, instructions of a call', [call_instructions(programs[0], '1', 'alone_bytes')])
     else:
         skip('instructions: valgrind is not there')
 

@@ -1,6 +1,6 @@
 /* Times the calls of capi/chanhub.h, by whatever library has them: that of capi, or the plain one of live_peer.
  *
- *     c_times CALLS RUNS [WORKLOAD]      a line for each workload, or for this one: NAME best N median M
+ *     c_times CALLS RUNS [WORKLOAD]      for each workload but alone_bytes, or for this one: NAME best N median M
  *
  * N and M are calls a second, and of `journal` bytes of its text a second. Each run has a new hub.
  */
@@ -103,7 +103,21 @@ static double one_thread(void) {
     return now() - begun;
 }
 
-/* The same, but it sends by selects of four cases, of which the others cannot proceed. */
+/* The same with values of 32 bytes. */
+static double one_thread_bytes(void) {
+    unsigned char bytes[32] = { 0 };
+    double begun = now();
+    for (unsigned long i = 0; i < count / 2; i += 100) {
+        for (unsigned long k = i; k < i + 100; k++) {
+            memcpy(bytes, &k, sizeof k);
+            want(chanhub_send(hub, 0, 1, chanhub_bytes(bytes, sizeof bytes)).what == CHANHUB_SENT);
+        }
+        for (unsigned long k = i; k < i + 100; k++) want(memcmp(receive(0, 1).value.bytes, &k, sizeof k) == 0);
+    }
+    return now() - begun;
+}
+
+/* The same as with numbers, but it sends by selects of four cases, of which the others cannot proceed. */
 static double one_thread_selects(void) {
     double begun = now();
     for (unsigned long i = 0; i < count / 2; i += 100) {
@@ -147,10 +161,14 @@ static const struct workload workloads[] = {
     { "hand_overs", 1, 0, two_threads }, { "buffered", 1, 1024, two_threads }, { "one_to_one", 1, 64, two_threads },
     { "four_to_four", 1, 64, four_to_four }, { "select_over_four", PORTS, 16, select_over_four }, { "alone", 1, 1024, one_thread },
     { "alone_select", PORTS, 1024, one_thread_selects }, { "look", 1, 1024, looks }, { "journal", 1, 1024, journal },
+    { "alone_bytes", 1, 1024, one_thread_bytes },
 };
 
+/* Whether it sends bytes. Then it is run only where it is named, since one of the plain hubs has numbers alone. */
+static bool has_bytes(const struct workload *w) { return w->run == one_thread_bytes; }
+
 static double rate(const struct workload *w) {
-    want(chanhub_open(&hub, 1, 2 * CREW, 1000000) == 0);
+    want(chanhub_open(&hub, has_bytes(w) ? 2 : 1, 2 * CREW, 1000000) == 0);
     for (unsigned i = 0; i < w->ports; i++) want(chanhub_make(hub, 0, w->capacity).what == CHANHUB_MADE);
     double taken = w->run();
     chanhub_free(hub);
@@ -169,7 +187,7 @@ int main(int argc, char **argv) {
     double *rates = calloc(runs, sizeof *rates);
     if (!rates || !runs || count % 200) return 2;
     for (size_t w = 0; w < sizeof workloads / sizeof *workloads; w++) {
-        if (argc > 3 && strcmp(argv[3], workloads[w].name) != 0) continue;
+        if (argc > 3 ? strcmp(argv[3], workloads[w].name) != 0 : has_bytes(&workloads[w])) continue;
         for (size_t i = 0; i < runs; i++) rates[i] = rate(&workloads[w]);
         qsort(rates, runs, sizeof *rates, by_size);
         printf("%s best %.0f median %.0f\n", workloads[w].name, rates[runs - 1], (rates[(runs - 1) / 2] + rates[runs / 2]) / 2);

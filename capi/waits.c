@@ -11,7 +11,8 @@
 
 enum {
     TRIES = 30,           /* how often a thread tries to take the lock before it sleeps for it */
-    FIRST_PAUSE = 32,     /* how long it pauses before the next try, in ticks; twice as long each time */
+    FIRST_PAUSE = 128,    /* how long it pauses before the next try, in ticks */
+    GROWTH = 4,           /* how many times as long the next pause is */
     LONGEST_PAUSE = 4096,
     LOOKS = 8,            /* how often a thread looks for its answer before it asks for the time, which takes longer */
     LOOK_TICKS = 25000,   /* how long a thread looks for its answer before it sleeps */
@@ -38,12 +39,12 @@ static void pause_for(uint64_t length) {
 
 /* Takes the lock while another thread has it. Mostly that thread lets go before this one could sleep, and a thread that sleeps
  * for the lock costs whoever lets go a system call. The pauses between the tries grow, since tries hinder the thread that has
- * it. */
+ * it: fast, so that it can make some steps while the hub lies in its own cache. */
 void wait_for_lock(chanhub *h) {
     for (int i = 0, length = FIRST_PAUSE; i < TRIES; i++) {
         pause_for((uint64_t)length);
         if (pthread_mutex_trylock(&h->lock) == 0) return;
-        if (length < LONGEST_PAUSE) length *= 2;
+        if (length < LONGEST_PAUSE) length *= GROWTH;
     }
     h->sleepers++;
     pthread_mutex_lock(&h->lock);

@@ -19,16 +19,16 @@ use hub_base::{
 };
 use std::sync::{Mutex, MutexGuard, Wait};
 
-/// How many loads a thread lets pass before it tries again for a lock that another holds: less than a step takes.
-const FIRST_PAUSE: u32 = 200;
+/// How many loads a thread lets pass before it tries again for a lock that another holds: as long as a step takes.
+const FIRST_PAUSE: u32 = 400;
 
-/// How many times as long the next pause is. Who still finds the lock held is one of several that want it again and again.
+/// How many times as long the next pause is: who still finds the lock held is one of several that want it again and again.
 const GROWTH: u32 = 4;
 
 /// The longest pause in loads, so that whoever holds the lock can make some steps with the hub in its own cache.
-const LONGEST_PAUSE: u32 = 3_200;
+const LONGEST_PAUSE: u32 = 6_400;
 
-/// How often a thread tries again before it sleeps: for some 40 microseconds.
+/// How often a thread tries again before it sleeps: for some 80 microseconds.
 const TRIES: u32 = 30;
 
 /// A hub that threads share. Each seat that is passed to it must come from its own `Blank::open`.

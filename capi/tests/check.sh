@@ -364,7 +364,8 @@ check '100 random rigs with timeouts, recorded and followed' tests/followed_time
 
 if command -v cargo > "$work/found"; then
     for test in --tests --doc; do
-        check "cargo test $test" cargo test --offline --quiet --manifest-path rust/Cargo.toml $test
+        # A test saves a journal under a fixed name in the folder for temporary files, where another check's would be.
+        check "cargo test $test" env TMPDIR="$work" cargo test --offline --quiet --manifest-path rust/Cargo.toml $test
     done
     check 'pool.rs' prints "$work/sum" cargo run --offline --quiet --manifest-path rust/Cargo.toml --example pool
     check 'first.rs' prints "$work/first" cargo run --offline --quiet --manifest-path rust/Cargo.toml --example first

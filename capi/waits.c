@@ -13,7 +13,7 @@ enum {
     TRIES = 30,           /* how often a thread tries to take the lock before it sleeps for it */
     FIRST_PAUSE = 128,    /* how long it pauses before the next try, in ticks */
     GROWTH = 4,           /* how many times as long the next pause is */
-    LONGEST_PAUSE = 4096,
+    LONGEST_PAUSE = 8192,
     LOOKS = 8,            /* how often a thread looks for its answer before it asks for the time, which takes longer */
     LOOK_TICKS = 25000,   /* how long a thread looks for its answer before it sleeps */
     LOOKS_TAKE = 10000,   /* the same in nanoseconds, roughly */

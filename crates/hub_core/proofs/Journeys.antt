@@ -54,7 +54,7 @@ not_full terms es i e hub told r h room = λ full.
     let step : is_exit e.step ≡ false = ap (λ (f : Entry). is_exit f.step) (sym same) ∙ full.step in
     absurd (omega (arith, room step, full.full, ap steps_of r.journal, limit-of r.terms))
 
-fits_at : (edition : Edition) (es : List Entry) (i : ℕ) (e : Entry) → AreOf edition es → slice_get es i ≡ Some e → is_of edition e.step ≡ true
+pub fits_at : (edition : Edition) (es : List Entry) (i : ℕ) (e : Entry) → AreOf edition es → slice_get es i ≡ Some e → is_of edition e.step ≡ true
 fits_at edition [] i e all h = cc
 fits_at edition (x ∷ es) zero e all h =
     let same : x ≡ e = cc in

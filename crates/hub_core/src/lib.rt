@@ -29,7 +29,7 @@ pub use opening::OpenFault;
 pub use runs::{ListFault, run};
 pub use short_entries::ShortEntries;
 pub use short_hub::ShortHub;
-pub use short_journal::{ShortJournal, read_short_journal};
+pub use short_journal::{ShortJournal, read_short_journal, write_short_journal};
 pub use tally::Tally;
 pub use terms::Terms;
 pub use touching::{port_changed, port_touched};

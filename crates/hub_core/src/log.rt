@@ -9,6 +9,8 @@ ghost use Rattle.std.specs.Prelude.{◌≡◌, ◌≤◌, ◌<◌, ◌+◌, ◌+
 ghost use Rattle.std.specs.Vec.{vec_capacity};
 ghost use Rattle.hub_core.specs.LogView.{FitsShort, HasRoomFor, places_asked};
 
+mod ending;
+
 use crate::beside::put_beside;
 use crate::brief::{
     Brief, append_cases, brief_of, brief_of_plain, cases_beside, short_at, write_out,

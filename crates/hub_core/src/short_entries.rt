@@ -4,8 +4,11 @@ ghost use Rattle.std.specs.Prelude.{◌≡◌, ◌<◌, ◌≤◌, ◌+◌, ◌+
 ghost use Rattle.std.specs.Option.{option_map_or};
 ghost use Rattle.hub_base.specs.Values.{cases_or};
 
+mod kept;
+
 use crate::brief::{Brief, append_cases, brief_of, cases_beside, short_at, write_out};
 use hub_base::{Case, EntryRef};
+pub(crate) use kept::shortened;
 use std::alloc::{AllocError, Global};
 use std::marker::Model;
 

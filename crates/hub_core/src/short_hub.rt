@@ -19,6 +19,8 @@ ghost use Rattle.hub_core.specs.HubKeeps.{count_after, Takes};
 ghost use Rattle.hub_core.specs.Prelude.{MOST_EVENTS};
 ghost use Rattle.hub_core.specs.declared.short_hub.Form.TheVariants.{Whole};
 
+mod ending;
+
 use crate::log::Log;
 use crate::machine::empty;
 use crate::{Machine, OpenFault, Terms};

@@ -6,11 +6,14 @@ ghost use Rattle.hub_base.specs.Reading.{read_text};
 ghost use Rattle.hub_text.specs.ReadJournal.{Gives, IsFaultOf};
 ghost use Rattle.hub_base.specs.Text.{IsText};
 
+mod written;
+
 use crate::ShortEntries;
 use hub_base::{Entry, Head, Journal, NoMemory, ReadFault};
 use hub_text::Reader;
 use std::alloc::Global;
 use std::marker::Model;
+pub use written::write_short_journal;
 
 /// What a `Journal` holds, in less memory.
 #[derive(Drop)]

@@ -9,6 +9,8 @@ ghost use Rattle.hub_live.specs.Prelude.{AreOf, is_of, IsPrefix, Entry, steps_of
 ghost use Rattle.hub_live.specs.Prelude.{answer_for, without_answer, IsReplyTo, IsHistory, IsFree, own_of, IsDesk};
 ghost use Rattle.hub_live.specs.Prelude.{ServesSeat, StandsIn};
 
+mod ending;
+
 use crate::answers::Pids;
 use crate::locked::Locked;
 use crate::mark::mark_of;

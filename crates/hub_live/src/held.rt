@@ -6,6 +6,8 @@ ghost use Rattle.hub_base.specs.declared.event.What.TheVariants as what;
 ghost use Rattle.hub_live.specs.Prelude.{Send, Recv, Make, Call, Close, Exit, Cancel, Two, is_of, has_value, call, counts_at, IsIdle, state_seen, Later};
 ghost use Rattle.hub_live.specs.Prelude.{Made, Refused, Answers, AskedNothing, StandsIn, Told, EndsIn};
 
+mod ending;
+
 use crate::answer::Answer;
 use crate::desk::Desk;
 use crate::ends::{Chan, RecvPort, SendPort};

@@ -10,6 +10,8 @@ ghost use Rattle.hub_core.specs.Looks.{look_at};
 ghost use Rattle.hub_live.specs.Locked.{none_waits};
 ghost use Rattle.hub_live.specs.Prelude.{AreOf, is_of, refusal, IsLegal, state_of, answer_for, IsReplyTo, ServesStep, without_answer};
 
+mod ending;
+
 use crate::answers::{Answers, Pids};
 use hub_base::{Entry, EntryRef, Event, Fault, Head, Journal, Look, Pid, Port};
 use hub_core::{Hub, ShortHub};

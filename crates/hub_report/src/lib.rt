@@ -7,7 +7,9 @@
 mod counting;
 mod replayed;
 mod report;
+mod short_report;
 mod writer;
 
 pub use report::{PortReport, Report};
-pub use writer::write_report;
+pub use short_report::ShortReport;
+pub use writer::{write_report, write_short_report};

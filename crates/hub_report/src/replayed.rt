@@ -7,12 +7,15 @@ ghost use Rattle.std.specs.Option.{option_map};
 ghost use Rattle.hub_report.specs.Prelude.{Port, IsHead, state, channel_at, steps_of, IsLegal, IsMade, port_touched, ports_told, told_of};
 ghost use Rattle.hub_report.specs.Prelude.{HasRoom, OfTold, Tells, Within, most_got, number_told, with_sum, with_told};
 
+mod short;
+
 use crate::PortReport;
 use crate::counting::{port_named, tell};
 use hub_base::{
     Event, Events, Head, Journal, MOST_EVENTS, MOST_PORTS, MOST_STEPS, NoMemory, Port, StepRef,
 };
 use hub_core::Machine;
+pub(crate) use short::replay_short;
 use std::alloc::{AllocError, Global};
 
 /// What some entries led to, and what their events told.

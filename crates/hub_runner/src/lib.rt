@@ -14,4 +14,4 @@ mod worker;
 pub use fault::RunFault;
 pub use gate::{Gate, NoGate};
 pub use laws::own_entries_are_asked;
-pub use runner::run_scenario;
+pub use runner::{run_scenario, run_scenario_short};

@@ -3,6 +3,7 @@
 ghost use Rattle.std.specs.Prelude.{◌≡◌, ◌≤◌, ◌<◌, [], List, IfOk, IfErr, IsErrOf, OnOk, All, length, map, vec_len};
 ghost use mathlib.Core.List.{IsPrefix};
 ghost use Rattle.hub_base.specs.Entry.{Entry};
+ghost use Rattle.hub_base.specs.Head.{AreOf};
 ghost use Rattle.hub_base.specs.Text.{steps_of};
 ghost use Rattle.hub_laws.specs.Journals.{IsLegal};
 ghost use Rattle.hub_live.specs.Calls.{AreSeats, Later};
@@ -17,10 +18,11 @@ ghost use Rattle.hub_runner.specs.Working.{asked_of, asker_of, Onward};
 use crate::fault::{RunFault, with_outcome};
 use crate::following::Following;
 use crate::gate::Gate;
-use hub_base::{Fault, Journal, MOST_STEPS};
+use hub_base::{Fault, MOST_STEPS};
+use hub_core::ShortJournal;
 use hub_crew::{Member, run_crew};
 use hub_live::{Blank, Held, HubName, LiveHub, Seat, hold_all};
-use hub_report::Report;
+use hub_report::{Report, ShortReport};
 use hub_scenario::Scenario;
 use std::alloc::{AllocError, Global};
 use std::marker::Brand;
@@ -166,7 +168,7 @@ fn run_named<K: HubName + Send + Sync, R: Threads + Wait + Sync, G: Gate + Sync>
     seats: Vec<Seat>,
     scenario: &Scenario,
     gate: &G,
-) -> Result<Journal, RunFault>
+) -> Result<ShortJournal, RunFault>
     requires named { blank.name ≡ K.name }
     requires head { K.name.terms.head ≡ run_head (scenario_view scenario.now) }
     requires limit { K.name.terms.limit ≡ scenario.now.limit }
@@ -175,6 +177,7 @@ fn run_named<K: HubName + Send + Sync, R: Threads + Wait + Sync, G: Gate + Sync>
     requires hubs { All (λ s. s.hub ≡ K.name) seats.items }
     ensures head { IfOk result (λ j. j.head ≡ run_head (scenario_view scenario.now)) }
     ensures legal { IfOk result (λ j. IsLegal j.head j.entries) }
+    ensures fits { IfOk result (λ j. AreOf j.head.edition j.entries) }
     ensures few { IfOk result (λ j. steps_of j.entries ≤ K.name.terms.limit) }
     ensures ports { IfOk result (λ j. BeginsWithPorts (scenario_view scenario.now) j.entries) }
     ensures follows { IfOk result (λ j. AllFollow (scenario_view scenario.now) j.entries) }
@@ -184,7 +187,7 @@ fn run_named<K: HubName + Send + Sync, R: Threads + Wait + Sync, G: Gate + Sync>
     let hub = blank.named::<K>();
     let Ended { seats, fault } = follow_all(rt, alloc, &hub, seats, scenario, gate)?;
     // Also where a step was refused, since only the whole journal shows where each process had come to.
-    let journal = hub.finish_held(seats);
+    let journal = hub.finish_short(alloc, seats)?;
     match fault {
         None => Ok(journal),
         Some(fault) => Err(fault),
@@ -197,9 +200,10 @@ fn run_journal<R: Threads + Wait + Sync, G: Gate + Sync>(
     alloc: Global,
     scenario: &Scenario,
     gate: &G,
-) -> Result<Journal, RunFault>
+) -> Result<ShortJournal, RunFault>
     ensures head { IfOk result (λ j. j.head ≡ run_head (scenario_view scenario.now)) }
     ensures legal { IfOk result (λ j. IsLegal j.head j.entries) }
+    ensures fits { IfOk result (λ j. AreOf j.head.edition j.entries) }
     ensures few { IfOk result (λ j. steps_of j.entries ≤ MOST_STEPS) }
     ensures ports { IfOk result (λ j. BeginsWithPorts (scenario_view scenario.now) j.entries) }
     ensures follows { IfOk result (λ j. AllFollow (scenario_view scenario.now) j.entries) }
@@ -214,13 +218,33 @@ fn run_journal<R: Threads + Wait + Sync, G: Gate + Sync>(
 }
 
 /// Runs a scenario: process 0 makes the ports, and then each process follows its script in a thread
-/// of its own. None begins before all are started. The report says what happened.
+/// of its own. None begins before all are started. The report says what happened; its journal is kept short.
 ///
 /// Its journal begins with the makes of the ports, and in it every process has followed its script.
 /// Refused by `JournalFull` where the limit cut the run short: the processes made as many steps as it
 /// allows, as their scripts say, and one asked for a step more. Refused by `NoMemory` where an allocation
 /// or the start of a thread was refused. It returns once all threads have ended; that they do end is not
 /// promised.
+pub fn run_scenario_short<R: Threads + Wait + Sync, G: Gate + Sync>(
+    rt: &R,
+    alloc: Global,
+    scenario: &Scenario,
+    gate: &G,
+) -> Result<ShortReport, RunFault>
+    ensures head { IfOk result (λ r. r.journal.head ≡ run_head (scenario_view scenario.now)) }
+    ensures legal { IfOk result (λ r. IsLegal r.journal.head r.journal.entries) }
+    ensures fits { IfOk result (λ r. AreOf r.journal.head.edition r.journal.entries) }
+    ensures ports { IfOk result (λ r. BeginsWithPorts (scenario_view scenario.now) r.journal.entries) }
+    ensures follows { IfOk result (λ r. AllFollow (scenario_view scenario.now) r.journal.entries) }
+    ensures report { IfOk result (λ r. IsReportOf r.journal r) }
+    ensures full { IsErrOf result RunFault.JournalFull
+        → (journal : List Entry) × IsCutShort (scenario_view scenario.now) journal }
+{
+    let journal = run_journal(rt, alloc, scenario, gate)?;
+    Ok(ShortReport::of(alloc, journal)?)
+}
+
+/// The same, and the report's journal is written out.
 pub fn run_scenario<R: Threads + Wait + Sync, G: Gate + Sync>(
     rt: &R,
     alloc: Global,
@@ -235,6 +259,6 @@ pub fn run_scenario<R: Threads + Wait + Sync, G: Gate + Sync>(
     ensures full { IsErrOf result RunFault.JournalFull
         → (journal : List Entry) × IsCutShort (scenario_view scenario.now) journal }
 {
-    let journal = run_journal(rt, alloc, scenario, gate)?;
-    Ok(Report::of(alloc, journal)?)
+    let report = run_scenario_short(rt, alloc, scenario, gate)?;
+    Ok(report.write_out(alloc)?)
 }

@@ -7,3 +7,4 @@ mod machines;
 mod openings;
 mod refusals;
 mod rows;
+mod short_journals;

@@ -2,7 +2,7 @@
 
 ghost use Rattle.std.specs.Prelude.{◌≡◌, ◌≤◌, ℕ, List, IfOk, IfErr, IsErrOf, IsSome, IsNone};
 ghost use Rattle.std.specs.Io.KnownBytes.{Appends};
-ghost use Rattle.hub_base.specs.Head.{IsHead};
+ghost use Rattle.hub_base.specs.Head.{AreOf, IsHead};
 ghost use Rattle.hub_replay.specs.Devices.{Failed, AppendsBeginning};
 ghost use Rattle.chanhub.specs.declared.outcome.Outcome.{Outcome};
 ghost use Rattle.chanhub.specs.Promises.{RunsScenario, ReadsScenario, TakesScenario, IsRefused, RefusesRun, RefusesScenario, TellsStalls, printed};
@@ -11,11 +11,11 @@ use crate::files::read_file;
 use crate::outcome::Outcome;
 use crate::refusal::Refusal;
 use hub_base::NoMemory;
+use hub_core::write_short_journal;
 use hub_replay::{Sink, Source, SourceFault, read_up_to, write_whole};
-use hub_report::{Report, write_report};
-use hub_runner::{NoGate, run_scenario};
+use hub_report::{ShortReport, write_short_report};
+use hub_runner::{NoGate, run_scenario_short};
 use hub_scenario::{MOST_FILE_BYTES, read_scenario};
-use hub_text::write_journal;
 use std::alloc::Global;
 use std::rt::Files;
 use std::sync::Wait;
@@ -44,24 +44,25 @@ fn scenario_bytes<R: Files, S: Source>(
 }
 
 /// What is printed of a run.
-fn text_of(alloc: Global, report: &Report, journal: bool) -> Result<Vec<u8>, NoMemory>
+fn text_of(alloc: Global, report: &ShortReport, journal: bool) -> Result<Vec<u8>, NoMemory>
     requires head { IsHead report.now.journal.head }
+    requires fits { AreOf report.now.journal.head.edition report.now.journal.entries }
     ensures { IfOk result (λ text. text.items ≡ printed journal report.now) }
 {
     let mut text = Vec::new(alloc);
     if journal {
-        write_journal(&mut text, &report.journal)?;
+        write_short_journal(&mut text, report.journal())?;
     } else {
-        write_report(&mut text, report)?;
+        write_short_report(&mut text, report)?;
     }
     Ok(text)
 }
 
 /// Whether some call stalled in the run.
-fn outcome_of(report: &Report) -> Outcome
+fn outcome_of(report: &ShortReport) -> Outcome
     ensures { TellsStalls result report.now.stalled }
 {
-    if report.stalled > 0 {
+    if report.stalled() > 0 {
         Outcome::Stalled
     } else {
         Outcome::Done
@@ -86,7 +87,7 @@ fn run_bytes<R: Threads + Wait + Sync, W: Sink>(
     ensures found { IfErr result (λ refusal. RefusesRun bytes.now refusal) }
 {
     let scenario = read_scenario(alloc, bytes)?;
-    let report = run_scenario(rt, alloc, &scenario, &NoGate)?;
+    let report = run_scenario_short(rt, alloc, &scenario, &NoGate)?;
     let text = text_of(alloc, &report, journal)?;
     write_whole(output, &text)?;
     Ok(outcome_of(&report))

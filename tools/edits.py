@@ -1,11 +1,11 @@
 #!/usr/bin/env python3
 """Tries the must-fail edits of the crates: the prover must refuse each wrong body, at a goal of the function that it stands in.
 
-    edits.py [--further] [--proved-in LOG] [--jobs N] [CRATE[/NAME] ..]
+    edits.py [--further] [--lacking] [--proved-in LOG] [--jobs N] [CRATE[/NAME] ..]
     edits.py --read [CRATE ..]
 
 Those in the folders `edits`, which the gate tries, and after --further those in `further-edits` too; of these crates, or of all; or
-one by its name.
+one by its name. After --lacking only those of which edits_tried.toml does not say that they were refused over the present contracts.
 An edit is a file with a line `call: NAME`, the public call that it turns, a line `file: PATH`, and pairs of lines `old: TEXT` and
 `new: TEXT`, where the old text stands in that file once.
 
@@ -20,11 +20,11 @@ crate and, where an answer stood, in the unchanged one: only what a search prove
 refusal, and fails: by a limit, by a name that is gone, by an answer's line, by a goal of safety alone (an index, a sum).
 One that is not refused beside others is tried alone. Prints a line for each edit, then how many by each kind, and last how many were
 refused: `N passed, M failed`. Status 0 where none failed, and something was tried. After --further writes to edits_tried.toml which
-were tried, and over which contracts.
+were refused, and over which contracts.
 
 After --read none is tried: all edits of the crates, further ones too, are made on copies and read by the compiler's front end, which
 checks names and types; but not where edits_tried.toml says that it has read the same edits with the same sources. What was read is
-written there. A crate fails if the record does not say that all its edits were tried over its present contracts, and were refused.
+written there. A crate fails if the record does not say of each of its edits that it was refused over the present contracts.
 """
 import argparse
 import collections
@@ -314,6 +314,7 @@ def count_kinds(told):
 def main():
     parser = argparse.ArgumentParser(description=__doc__, formatter_class=argparse.RawDescriptionHelpFormatter)
     parser.add_argument('--further', action='store_true')
+    parser.add_argument('--lacking', action='store_true')
     parser.add_argument('--read', action='store_true')
     parser.add_argument('--proved-in', metavar='LOG')
     parser.add_argument('--jobs', type=int, default=len(os.sched_getaffinity(0)))
@@ -326,10 +327,12 @@ def main():
     found = {crate: read_edits(crate, where, words.asked, bad) for crate in read_crates()}
     there = {name for crate, edits in found.items() for name in (crate, *(it.name().removesuffix('.edit') for it in edits))}
     bad += ['%s: there is no such crate or edit' % it for it in words.asked if it not in there]
+    if words.lacking:
+        found = {crate: edits_tried.lacking(crate, edits) for crate, edits in found.items()}
     by_crate = {crate: edits for crate, edits in found.items() if edits}
     if not by_crate:
         bad.append('there are no edits')
-    whole = [it for it in by_crate if not words.asked or it in words.asked]
+    whole = [it for it in by_crate if not words.lacking and (not words.asked or it in words.asked)]
     if words.read:
         unread = {it: edits for it, edits in by_crate.items() if not edits_tried.are_read(it, edits)}
         passed = sum(map(len, by_crate.values()))

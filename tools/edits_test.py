@@ -8,6 +8,7 @@ import sys
 import tomllib
 
 sys.dont_write_bytecode = True
+import edit_contracts
 import edit_verdicts as verdicts
 import edits_tried
 from edit_files import Batch, batches_of
@@ -131,21 +132,101 @@ pub fn one(x: u8) -> u8
 '''
 
 
-RECORDED = {'date': datetime.date(2026, 1, 2), 'commit': '12ab', 'read': '34cd', 'kinds': {verdicts.FALSE: 2}, 'left': ['second'],
-            'contracts': ['%02x' % it for it in range(90)], 'tried': ['1a', '2b']}
+RECORDED = {'date': datetime.date(2026, 1, 2), 'commit': '12ab', 'read': '34cd', 'kinds': {verdicts.FALSE: 2}, 'refused': ['%02x' % it for it in range(90)]}
+
+TWO = '''\
+ghost use Rattle.one.specs.Two.{IsSmall};
+
+impl Model for Two {
+    ghost view = { λ t. t };
+}
+
+impl Two {
+    /// Not the sum.
+    pub fn one(&self) -> u8
+        ensures small { IsSmall result }
+    {
+        self.other()
+    }
+
+    fn other(&self) -> u8
+        ensures { result ≡ 2 }
+    {
+        2
+    }
+}
+
+impl Read for Two {
+    fn read(&self) -> u8
+        ensures read { IsEmpty result }
+    {
+        self.sum()
+    }
+}
+'''
+SUM = '''\
+fn sum() -> u8
+    ensures sum { Sums result }
+{
+    loop
+        invariant here { IsHere }
+    {
+    }
+}
+'''
+DEFINED = '''\
+use Rattle.std.specs.Prelude.{ℕ}
+
+-- at most the limit
+abbrev pub IsSmall : ℕ → Type 0
+IsSmall n = n ≤ limit
+
+limit = 9
+
+pub record IsEmpty (n : ℕ) : Type 0 where
+  pub none : n ≡ 0
+
+abbrev pub Sums : ℕ → Type 0
+Sums n = n.none
+
+abbrev pub ◌after◌ : ℕ → ℕ → ℕ
+'''
 
 
 class Change:
-    """An edit of one function, as far as batches look at it."""
+    """An edit of one function, as far as batches and contracts look at it."""
 
-    def __init__(self, function):
+    def __init__(self, function, file='', new=''):
         self.function = function
+        self.functions = [function]
+        self.changes = [(file, '', new)]
 
     def places(self):
         return {self.function}
 
     def made(self, texts):
         return {**texts, self.function: 'changed'}, [self.function]
+
+
+def judged_by(*words):
+    """What an edit is judged by in these two sources and their definitions: of each clause, and of each definition, its name."""
+    told = edit_contracts.Contracts({'src/two.rt': TWO, 'src/sum.rt': SUM}, [DEFINED]).of(Change(*words))
+    return sorted(' '.join(it.removeprefix('abbrev ').removeprefix('pub ').split()[:2]) for it in told)
+
+
+def tests_of_contracts():
+    clauses = list(edit_contracts.clauses(SOURCE))
+    yield 'clauses of a source', clauses == ['requires small { x < 9 }', 'ensures { IfOk result (λ r. { r }) }']
+    yield 'imports say nothing', edit_contracts.IMPORT.sub('', 'use A.{b}\npub use C.{d}\nuse_it = b\n') == 'use_it = b\n'
+    always = ['ensures read', 'ghost view', 'record IsEmpty']
+    called = sorted(always + ['ensures small', 'ensures {', 'IsSmall :', 'limit ='])
+    yield 'the contracts of a function and of what it calls', judged_by('Two::one', 'src/two.rt', 'self.other()') == called
+    yield 'those of what it calls alone', judged_by('Two::other', 'src/two.rt', '3') == sorted(always + ['ensures {'])
+    added = sorted(always + ['ensures sum', 'invariant here', 'ensures {', 'Sums :'])
+    yield 'those of what an edit calls', judged_by('Two::other', 'src/two.rt', 'sum()') == added
+    everything = sorted(set(added) | set(called))
+    yield 'those of what a method of a trait calls', judged_by('two::*', 'src/two.rt', '3') == everything
+    yield 'names of operators', 'after' in dict(edit_contracts.definitions(DEFINED))['abbrev pub ◌after◌ : ℕ → ℕ → ℕ']
 
 
 def tests():
@@ -170,14 +251,9 @@ def tests():
     yield 'edits of one function are apart', [len(it.edits) for it in batches] == [2, 1]
     yield 'or read together', [len(it.edits) for it in batches_of([Change('one'), Change('one')], apart=False)] == [2]
     yield 'an empty batch', Batch().texts == {}
-    yield 'sums of edits', edits_tried.text_sum(__file__) != edits_tried.text_sum(verdicts.__file__)
-    yield 'imports say nothing', edits_tried.IMPORT.sub('', 'use A.{b}\npub use C.{d}\nuse_it = b\n') == 'use_it = b\n'
     yield 'a record that is read back', tomllib.loads(edits_tried.part('one', RECORDED))['one'] == RECORDED
-    left = {**RECORDED, 'left': ['first', 'gone', 'second']}
-    more = edits_tried.beside(left, {**RECORDED, 'tried': {'3c'}, 'left': {'third'}}, {'second', 'third'}, {'first', 'second', 'third'})
-    yield 'edits beside others', (more['tried'], more['left']) == ({'1a', '2b', '3c'}, {'first', 'third'})
-    clauses = list(edits_tried.clauses(SOURCE))
-    yield 'clauses of a source', clauses == ['requires small { x < 9 }', 'ensures { IfOk result (λ r. { r }) }']
+    yield 'edits beside others', edits_tried.beside(['1a', '2b', 'gone'], {'3c': True, '1a': False}, {'1a', '2b', '3c'}) == {'2b', '3c'}
+    yield from tests_of_contracts()
 
 
 def main():

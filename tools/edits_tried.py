@@ -1,43 +1,23 @@
-"""When all edits of a crate were tried last, and over which contracts: edits_tried.toml, which edits.py reads and writes."""
+"""Which edits were refused, and over which contracts: edits_tried.toml, which edits.py reads and writes."""
 import collections
 import datetime
 import hashlib
 import os
-import re
 import subprocess
 import tomllib
 
 from crates import ROOT, below, folder, read_crates
-from edit_files import FOLDERS
+from edit_contracts import contracts, files, read_text
+from edit_files import FOLDERS, read_edits
 
 RECORD = os.path.join(ROOT, 'tools', 'edits_tried.toml')
-HEAD = """# Per crate, when edits were tried last: by `tools/edits.py --further CRATE`, or of single edits CRATE/NAME, which write this. `contracts`
-# has a sum for each file of specs or sources that says anything, `tried` one for each edit, with its name; `left` names those that were
-# tried and not refused. `read` is a sum over edits and sources that the compiler has read together. `tools/edits.py --read` fails unless
-# each edit was tried and refused, and each of these contracts still stands; imports and proofs have no sums.
+HEAD = """# Per crate, when edits were tried last: by `tools/edits.py --further CRATE`, or single ones, CRATE/NAME, which write this. `refused`
+# has a sum for each edit that was refused: of its name, its text, and all that it is judged by, which is the contracts of the functions
+# that it changes and of those that these call, and the definitions of both. `kinds` is what the last run of all told. `read` is a sum
+# over edits and sources that the compiler has read together. `tools/edits.py --read` fails unless each edit is among those refused;
+# imports, proofs and what bodies do have no sums.
 """
-CLAUSE = re.compile(r'^\s*(?:requires|ensures|follows\w*|ghost(?! use)|invariant)\b', re.M)
-# Where the names of a definition come from.
-IMPORT = re.compile(r'^(?:pub )?use [^\n]*\n', re.M)
 COLUMNS = 140
-
-
-def files(place, ending):
-    for at, folders, names in os.walk(place):
-        folders.sort()
-        yield from (os.path.join(at, it) for it in sorted(names) if it.endswith(ending))
-
-
-def clauses(text):
-    """The texts of the clauses of a source file: from the word that begins each to the brace that ends it."""
-    for found in CLAUSE.finditer(text):
-        depth, end = 0, found.end()
-        while end < len(text) and (depth or text[end] not in '}\n'):
-            depth += (text[end] == '{') - (text[end] == '}')
-            end += 1
-            if depth == 0 and text[end - 1] == '}':
-                break
-        yield ' '.join(text[found.start():end].split())
 
 
 def sum_of(texts, length=8):
@@ -47,21 +27,9 @@ def sum_of(texts, length=8):
     return total.hexdigest()[:length]
 
 
-def read_text(path):
-    with open(path) as file:
-        return file.read()
-
-
-def contracts(crate):
-    """The sums of the crate's files of definitions, without their imports, and of the clauses of its sources."""
-    said = [[IMPORT.sub('', read_text(it))] for it in files(os.path.join(folder(ROOT, crate), 'specs'), '.antt')]
-    said += [list(clauses(read_text(it))) for it in files(os.path.join(folder(ROOT, crate), 'src'), '.rt')]
-    return {sum_of(it) for it in said if it}
-
-
-def text_sum(path):
-    """The sum of an edit: of its name and its text, in whichever folder it stands."""
-    return sum_of([os.path.basename(path), read_text(path)])
+def edit_sum(edit):
+    """The sum of an edit, in whichever folder it stands, and of all that it is judged by."""
+    return sum_of([os.path.basename(edit.path), read_text(edit.path), *contracts(edit.crate).of(edit)])
 
 
 def name_of(path):
@@ -82,26 +50,18 @@ def read_record():
         return tomllib.load(file)
 
 
-def what_lacks(crate, paths):
-    """Why the record does not say of this crate that all its edits are refused over its present contracts; or nothing. What came since in
-    files of its own takes nothing from what the others say."""
-    tried = read_record().get(crate)
-    if tried is None:
-        return 'no run of its edits is recorded'
-    if not set(tried['contracts']) <= contracts(crate):
-        return 'its contracts have changed since its edits were tried on %s' % tried['date']
-    new = sorted(name_of(it) for it in paths if text_sum(it) not in tried['tried'])
-    if new:
-        return 'not tried: ' + ', '.join(new)
-    return 'not refused: ' + ', '.join(tried['left']) if tried['left'] else None
+def lacking(crate, edits):
+    """Those of a crate's edits of which the record does not say that they were refused over the contracts that stand."""
+    refused = read_record().get(crate, {}).get('refused', ())
+    return [it for it in edits if edit_sum(it) not in refused]
 
 
 def lacks(by_crate):
     """What to say of each crate of which the record lacks something."""
     for crate, edits in by_crate.items():
-        why = what_lacks(crate, [it.path for it in edits])
-        if why:
-            yield '%s: %s: tools/edits.py --further %s' % (crate, why, crate)
+        names = ', '.join(sorted(name_of(it.path) for it in lacking(crate, edits)))
+        if names:
+            yield '%s: not known to be refused over the present contracts: %s: tools/edits.py --further --lacking %s' % (crate, names, crate)
 
 
 def are_read(crate, edits):
@@ -125,8 +85,8 @@ def part(crate, tried):
     """What the record has of a crate, in its own lines."""
     lines = ['[%s]' % crate, 'date = %s' % tried['date']]
     lines += ['%s = "%s"' % (it, tried[it]) for it in ('commit', 'read') if it in tried]
-    lines.append('kinds = { %s }' % ', '.join('"%s" = %d' % it for it in sorted(tried['kinds'].items())))
-    return '\n'.join(lines + [line for it in ('left', 'contracts', 'tried') for line in list_of(it, sorted(tried[it]))]) + '\n'
+    lines.append('kinds = { %s }' % ', '.join('"%s" = %d' % it for it in sorted(tried.get('kinds', {}).items())))
+    return '\n'.join(lines + list_of('refused', sorted(tried['refused']))) + '\n'
 
 
 def write_record(record):
@@ -145,34 +105,25 @@ def record_read(by_crate):
     write_record(record)
 
 
-def entry(crate, told, refused):
-    """What a run says of a crate of which these edits were tried."""
-    commit = subprocess.run(['git', 'rev-parse', '--short', 'HEAD'], cwd=ROOT, stdout=subprocess.PIPE, text=True).stdout.strip()
-    return {'date': datetime.date.today(), 'commit': commit, 'contracts': contracts(crate),
-            'kinds': collections.Counter(it.kind or 'not refused' for it in told),
-            'tried': {text_sum(it.edit.path) for it in told},
-            'left': {name_of(it.edit.path) for it in told if it.kind not in refused}}
-
-
-def beside(old, new, names, there):
-    """The same with what an earlier run says of other edits that are still there. How many there are by each kind is what the last run of
-    all told."""
-    left = ({*old['left']} - names) & there | new['left']
-    return {**old, **new, 'kinds': old['kinds'], 'tried': {*old['tried'], *new['tried']}, 'left': left}
+def beside(old, told, there):
+    """The sums of the edits that were refused: of those that are still there and were not tried since, and of those that are told now, of
+    which each sum goes with whether it was."""
+    return {it for it in old if it in there and it not in told} | {it for it, is_refused in told.items() if is_refused}
 
 
 def record_tried(by_crate, whole, refused):
-    """Records what was told of edits: of all of these whole crates, or of some of a crate, unless its contracts have changed since the
-    others were tried."""
+    """Records what was told of edits: of all of these whole crates, or of some of a crate."""
     record = read_record()
+    commit = subprocess.run(['git', 'rev-parse', '--short', 'HEAD'], cwd=ROOT, stdout=subprocess.PIPE, text=True).stdout.strip()
     for crate, told in by_crate.items():
         # Where a crate's own check failed, none of its edits was tried.
         if not told:
             continue
-        new, old = entry(crate, told, refused), record.get(crate)
+        old = record.get(crate, {})
+        there = {edit_sum(it) for it in read_edits(crate, FOLDERS, [], [])}
+        sums = beside(old.get('refused', ()), {edit_sum(it.edit): it.kind in refused for it in told}, there)
+        new = {'date': datetime.date.today(), 'commit': commit, 'refused': sums}
         if crate in whole:
-            record[crate] = new
-        elif old is not None and set(old['contracts']) <= new['contracts']:
-            there = {name_of(it) for part in FOLDERS for it in files(os.path.join(folder(ROOT, crate), part), '.edit')}
-            record[crate] = beside(old, new, {name_of(it.edit.path) for it in told}, there)
+            new['kinds'] = collections.Counter(it.kind or 'not refused' for it in told)
+        record[crate] = {**old, **new}
     write_record(record)

@@ -6,6 +6,7 @@
 #![tactic(auto)]
 
 ghost use Rattle.std.specs.Prelude.{◌≡◌, None, Some};
+ghost use Rattle.hub_base.specs.Lines.{by};
 ghost use Rattle.hub_base.specs.Notation.{cancel, close, exit, make, recv};
 ghost use Rattle.hub_session.specs.Cuts.{Cuts, LetsGo};
 ghost use Rattle.hub_session.specs.Looks.{Looks, ReadsPiece, before_of, entries_of, next_bits, present_of, waiting_of};
@@ -13,7 +14,7 @@ ghost use Rattle.hub_session.specs.Opens.{OpensEndless, OpensFollowing, OpensSes
 ghost use Rattle.hub_session.specs.Steps.{Steps, Takes};
 ghost use Rattle.hub_session.specs.Structs.{call_of, is_true, send_of};
 
-use hub_base::{Pid, Port, Step};
+use hub_base::{Pid, Port, Step, StepRef};
 use hub_session::{
     CaseC, CountsC, CutC, FollowC, HubC, PieceC, ToldC, ValueC, counts_told, is_true, no_piece,
     open_box, open_endless_box, open_following_box, tell_bad_call,
@@ -90,17 +91,25 @@ pub extern "C" fn hub_c_end(alloc: Global, hub: &mut HubC)
     hub.end(alloc);
 }
 
-/// Makes a port of this capacity.
-#[unsafe(no_mangle)]
-pub extern "C" fn hub_c_make(alloc: Global, hub: &mut HubC, pid: u8, cap: u32, told: &mut ToldC)
-    ensures { Steps hub.old.session (Some (make pid cap)) hub.new.session told.new }
+/// Makes a step that is no call.
+#[inline(always)]
+fn plain(alloc: Global, hub: &mut HubC, pid: u8, step: StepRef<'_>, told: &mut ToldC)
+    ensures { Steps hub.old.session (Some (by pid step.entry)) hub.new.session told.new }
 {
     let Some(mut session) = hub.take_out(alloc) else {
         tell_bad_call(told);
         return;
     };
-    session.plain(pid, Step::Make(cap), told);
+    session.plain(pid, step, told);
     hub.put_in(session);
+}
+
+/// Makes a port of this capacity.
+#[unsafe(no_mangle)]
+pub extern "C" fn hub_c_make(alloc: Global, hub: &mut HubC, pid: u8, cap: u32, told: &mut ToldC)
+    ensures { Steps hub.old.session (Some (make pid cap)) hub.new.session told.new }
+{
+    plain(alloc, hub, pid, Step::Make(cap), told);
 }
 
 /// Sends a value on a port.
@@ -162,12 +171,7 @@ pub extern "C" fn hub_c_call(
 pub extern "C" fn hub_c_close(alloc: Global, hub: &mut HubC, pid: u8, port: u16, told: &mut ToldC)
     ensures { Steps hub.old.session (Some (close pid port)) hub.new.session told.new }
 {
-    let Some(mut session) = hub.take_out(alloc) else {
-        tell_bad_call(told);
-        return;
-    };
-    session.plain(pid, Step::Close(Port(port)), told);
-    hub.put_in(session);
+    plain(alloc, hub, pid, Step::Close(Port(port)), told);
 }
 
 /// Ends a process.
@@ -175,12 +179,7 @@ pub extern "C" fn hub_c_close(alloc: Global, hub: &mut HubC, pid: u8, port: u16,
 pub extern "C" fn hub_c_exit(alloc: Global, hub: &mut HubC, pid: u8, told: &mut ToldC)
     ensures { Steps hub.old.session (Some (exit pid)) hub.new.session told.new }
 {
-    let Some(mut session) = hub.take_out(alloc) else {
-        tell_bad_call(told);
-        return;
-    };
-    session.plain(pid, Step::Exit, told);
-    hub.put_in(session);
+    plain(alloc, hub, pid, Step::Exit, told);
 }
 
 /// Ends the open call of another process.
@@ -188,12 +187,7 @@ pub extern "C" fn hub_c_exit(alloc: Global, hub: &mut HubC, pid: u8, told: &mut 
 pub extern "C" fn hub_c_cancel(alloc: Global, hub: &mut HubC, pid: u8, other: u8, told: &mut ToldC)
     ensures { Steps hub.old.session (Some (cancel pid other)) hub.new.session told.new }
 {
-    let Some(mut session) = hub.take_out(alloc) else {
-        tell_bad_call(told);
-        return;
-    };
-    session.plain(pid, Step::Cancel(Pid(other)), told);
-    hub.put_in(session);
+    plain(alloc, hub, pid, Step::Cancel(Pid(other)), told);
 }
 
 /// Takes the answer that waits for a process. `what` is 0 where none waits.

@@ -199,7 +199,7 @@ impl Session {
 
     /// Makes a call of these cases, which the hub's edition has.
     #[inline(always)]
-    fn call_listed(&mut self, pid: u8, cases: &[Case], default: u8, word: u64, told: &mut ToldC)
+    fn serve_call(&mut self, pid: u8, cases: &[Case], default: u8, word: u64, told: &mut ToldC)
         requires few { length cases.now ≤ CASE_PLACES }
         requires fits { list_all (has_case (head_in self.old.hub).edition) cases.now ≡ true }
         ensures { ServesIn self.old (select pid word cases.now (is_true default)) self.new told.new }
@@ -212,32 +212,26 @@ impl Session {
         self.serve(&entry_by(pid, step), told);
     }
 
-    /// Makes a call of so few cases that a few places are enough for them: each place that there is has to be filled first.
+    /// Makes a call of so many cases at most. Each place that there is has to be filled first, so a call of few is given few.
     #[inline(never)]
-    fn call_few(&mut self, pid: u8, cases: &[CaseC], default: u8, word: u64, told: &mut ToldC)
-        requires few { length cases.now ≤ FEW_CASES }
+    fn call_within<const PLACES: usize>(
+        &mut self,
+        pid: u8,
+        cases: &[CaseC],
+        default: u8,
+        word: u64,
+        told: &mut ToldC,
+    )
+        requires few { length cases.now ≤ PLACES }
+        requires within { PLACES ≤ CASE_PLACES }
         ensures { StepsSaid self.old (call_of pid cases.now default word) self.new told.new }
     {
-        let mut places = [Case::default(); FEW_CASES];
+        let mut places = [Case::default(); PLACES];
         if !take_cases(self.hub.head().edition, cases, &mut places) {
             tell_bad_call(told);
             return;
         }
-        self.call_listed(pid, &places[..cases.len()], default, word, told);
-    }
-
-    /// Makes a call of many cases.
-    #[inline(never)]
-    fn call_many(&mut self, pid: u8, cases: &[CaseC], default: u8, word: u64, told: &mut ToldC)
-        requires few { length cases.now ≤ CASE_PLACES }
-        ensures { StepsSaid self.old (call_of pid cases.now default word) self.new told.new }
-    {
-        let mut places = [Case::default(); CASE_PLACES];
-        if !take_cases(self.hub.head().edition, cases, &mut places) {
-            tell_bad_call(told);
-            return;
-        }
-        self.call_listed(pid, &places[..cases.len()], default, word, told);
+        self.serve_call(pid, &places[..cases.len()], default, word, told);
     }
 
     /// Makes a call of these cases, with a default unless `default` is 0. It is told as a bad call, and nothing is done, if they are
@@ -247,8 +241,12 @@ impl Session {
     {
         match cases {
             [case] => self.call_one(pid, case, default, word, told),
-            _ if cases.len() <= FEW_CASES => self.call_few(pid, cases, default, word, told),
-            _ if cases.len() <= CASE_PLACES => self.call_many(pid, cases, default, word, told),
+            _ if cases.len() <= FEW_CASES => {
+                self.call_within::<FEW_CASES>(pid, cases, default, word, told);
+            }
+            _ if cases.len() <= CASE_PLACES => {
+                self.call_within::<CASE_PLACES>(pid, cases, default, word, told);
+            }
             _ => tell_bad_call(told),
         }
     }

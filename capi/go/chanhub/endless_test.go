@@ -297,15 +297,20 @@ func TestTheFunctionMayLookAtItsHub(t *testing.T) {
 	var hub *chanhub.Hub
 	var port chanhub.Port
 	var seen []string
+	looked := make(chan bool, 2)
 	hub = openEndless(t, 64, 1, chanhub.Chapters{Func: func(text []byte) {
 		counts, err := hub.Look(port)
 		if err != nil {
 			seen = append(seen, err.Error())
 			return
 		}
-		before, _ := hub.Before()
-		present, _ := hub.Journal()
+		before, beforeErr := hub.Before()
+		present, presentErr := hub.Journal()
+		if beforeErr != nil || presentErr != nil {
+			t.Errorf("before: %v, journal: %v", beforeErr, presentErr)
+		}
 		seen = append(seen, fmt.Sprint(counts.Sent, bytes.Equal(text, before), bytes.Equal(before, present)))
+		looked <- true
 	}})
 	port = makePort(t, hub.Seat(0), 2)
 	for i := 0; i < 2; i++ {
@@ -316,6 +321,10 @@ func TestTheFunctionMayLookAtItsHub(t *testing.T) {
 		_, err := hub.Seat(1).Recv(0)
 		waits <- err
 	}()
+	// Until the function has looked twice, the hub stays open.
+	for i := 0; i < 2; i++ {
+		<-looked
+	}
 	untilItStands(t, hub, "1 recv 0")
 	told(t, "close", hub.Close(), nil)
 	told(t, "the call that waited", <-waits, chanhub.ErrHubClosed)

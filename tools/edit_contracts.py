@@ -13,6 +13,8 @@ from edit_files import FUNCTION, function_at
 CLAUSE = re.compile(r'^\s*(?:requires|ensures|follows\w*|ghost(?! use)|invariant)\b', re.M)
 COMMENT = re.compile(r'^[ \t]*(?://|--).*\n', re.M)
 WORD = re.compile(r'[^\s(){}\[\].,;:&<>?!◌]+')
+# What a function can be called by.
+IDENTIFIER = re.compile(r'\w+')
 # What the methods of a trait stand in.
 BLOCK = re.compile(r'^(?:pub(?:\([a-z]+\))? )?(?:impl|trait)\b[^{]*\{', re.M)
 OF_TRAIT = re.compile(r'\btrait\b|\bfor\b')
@@ -113,11 +115,11 @@ class Contracts:
     def of(self, edit):
         """All that an edit is judged by, as texts."""
         places, text = self.changed(edit)
-        words = words_of(text)
+        called = set(IDENTIFIER.findall(text))
         said = []
         for file, source in self.sources.items():
             said += source.always
-            said += [clause for it in source.functions if it.name in words or (file, it.path) in places for clause in it.clauses]
+            said += [clause for it in source.functions if it.name in called or (file, it.path) in places for clause in it.clauses]
         return sorted(said) + sorted(self.defined(said))
 
 

@@ -224,6 +224,7 @@ def tests_of_contracts():
     yield 'those of what it calls alone', judged_by('Two::other', 'src/two.rt', '3') == sorted(always + ['ensures {'])
     added = sorted(always + ['ensures sum', 'invariant here', 'ensures {', 'Sums :'])
     yield 'those of what an edit calls', judged_by('Two::other', 'src/two.rt', 'sum()') == added
+    yield 'a call behind an operator', judged_by('Two::other', 'src/two.rt', '-sum()') == added
     everything = sorted(set(added) | set(called))
     yield 'those of what a method of a trait calls', judged_by('two::*', 'src/two.rt', '3') == everything
     yield 'names of operators', 'after' in dict(edit_contracts.definitions(DEFINED))['abbrev pub ◌after◌ : ℕ → ℕ → ℕ']

@@ -171,7 +171,8 @@ class Browser:
         for kind in kinds:
             held = {"button": "left", "clickCount": 1} if kind != "mouseMoved" else {}
             self.ask("Input.dispatchMouseEvent", type=kind, x=x, y=y, **held)
-        self.settle()
+            # What the pointer is over is told by what was drawn.
+            self.settle()
 
     def seconds(self):
         """How long the page has had the processor."""

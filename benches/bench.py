@@ -4,7 +4,8 @@
 replay      `chanhub replay` beside OTHER, the command of another program that reads a journal and writes its events
 growth      the same on the journals of make_growth.py, in which much waits or has waited: instructions alone
 verify      `chanhub verify` beside `chanhub replay`
-live        `hub_trials` beside the plain hubs of live_peer, and beside channels without a journal, of crossbeam and of Go
+live        `hub_trials` beside the plain hubs of live_peer, and beside channels without a journal, of crossbeam and of Go; and how
+            many instructions one of its calls takes
 scenarios   `hub_trials` beside `chanhub run`
 capi        the C library beside the plain hub of live_peer, called from C: c_times.c, linked with each; and called from Rust
 
@@ -18,11 +19,13 @@ import collections
 import glob
 import hashlib
 import os
+import re
 import shlex
 import shutil
 import statistics
 import subprocess
 import sys
+import tempfile
 import time
 
 HERE = os.path.dirname(os.path.abspath(__file__))
@@ -47,6 +50,9 @@ WORKLOADS = ('alone', 'ping_pong', 'one_to_one', 'four_to_four', 'select_over_fo
 C_WORKLOADS = ('hand_overs', 'buffered', 'one_to_one', 'four_to_four', 'select_over_four', 'alone', 'alone_select', 'look', 'journal')
 C_COUNTED = ('alone', 'alone_select', 'look')
 C_CALLS = 200000
+# what each workload of hub_trials begins with, `alone` first; and between how many calls it is counted
+BEGINNING = 'hub_trials::beginning::hold_with_ports*'
+COUNTED = (40000, 80000)
 # the calls and closes of each scenario
 SCENARIOS = {'pool': 99994, 'pipeline': 69994}
 
@@ -252,12 +258,27 @@ def build(peer):
     return os.path.join(folder, peer.program)
 
 
+def alone_part(calls):
+    """The instructions of hub_trials from where the hub of `alone` is open to where the next one is."""
+    with tempfile.TemporaryDirectory() as folder:
+        counts = os.path.join(folder, 'counts')
+        counted = ['valgrind', '--tool=callgrind', '--callgrind-out-file=' + counts, '--dump-before=' + BEGINNING]
+        subprocess.run([*counted, TRIALS, 'times', str(calls), '1'], stdout=subprocess.DEVNULL, stderr=subprocess.DEVNULL, check=True)
+        with open(counts + '.2') as part:
+            return int(re.search(r'^totals: (\d+)', part.read(), re.MULTILINE)[1])
+
+
 def live(*_):
     # all are built before the first is timed
     programs = [TRIALS, *[build(peer) for peer in PEERS]]
     makers = [lambda program=program: rates_of(program) for program in programs]
     title = 'The live hub, in thousands a second'
     print_beside(title, 'hub_trials', [peer.name for peer in PEERS], rate_rows(WORKLOADS, makers))
+    if has_valgrind():
+        few, many = [alone_part(calls) for calls in COUNTED]
+        print('alone, instructions of a call: %s' % shown((many - few) / (COUNTED[1] - COUNTED[0])))
+    else:
+        skip('instructions: valgrind is not there')
 
 
 def rates_of_runs(folder):

@@ -41,6 +41,22 @@ is_fault what.Parked = false
 is_fault what.Stalled = false
 is_fault what.Cancelled = false
 
+-- its call waits
+abbrev pub is_parked : What → Bool
+is_parked what.Parked = true
+is_parked w = false
+
+-- a call ended because everyone waited
+abbrev pub is_stalled : What → Bool
+is_stalled what.Stalled = true
+is_stalled (what.Made p) = false
+is_stalled (what.Fired i o) = false
+is_stalled what.Default = false
+is_stalled what.Done = false
+is_stalled what.Parked = false
+is_stalled (what.Fault f) = false
+is_stalled what.Cancelled = false
+
 -- whether the entry was answered by a fault
 abbrev pub refused : List Event → Bool
 refused [] = false

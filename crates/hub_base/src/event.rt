@@ -3,6 +3,7 @@
 ghost use Rattle.std.specs.Prelude.{◌≡◌, ◌≤◌, ◌<◌, ◌+◌, ◌-◌, ◌∷◌, ◌++◌, [], List, ℕ, length};
 ghost use Rattle.std.proofs.Common.{rules};
 ghost use Rattle.hub_base.specs.declared.event.Event.{Event as Told};
+ghost use Rattle.hub_base.specs.Values.{is_parked, is_stalled};
 
 use crate::limits::MOST_EVENTS;
 use crate::{Fault, Pid, Port, Value};
@@ -42,6 +43,24 @@ pub enum What {
     Cancelled,
 }
 
+impl What {
+    /// Whether the call waits: another event ends it.
+    #[inline(always)]
+    pub fn is_parked(&self) -> bool
+        ensures { result ≡ is_parked self.now }
+    {
+        matches!(self, What::Parked)
+    }
+
+    /// Whether a call ended because everyone waited.
+    #[inline(always)]
+    pub fn is_stalled(&self) -> bool
+        ensures { result ≡ is_stalled self.now }
+    {
+        matches!(self, What::Stalled)
+    }
+}
+
 /// What one process is told.
 #[derive(Clone, Copy, Debug, PartialEq, Eq)]
 pub struct Event {
@@ -51,7 +70,8 @@ pub struct Event {
     pub what: What,
 }
 
-/// That process 0 is told `Done`. It fills the places of a list of events that hold none yet.
+/// That process 0 is told `Done`. It fills the places of a list of events that hold none yet, and is what a hub was answered before
+/// its first step.
 impl Default for Event {
     ghost use Rattle.std.specs.Prelude.{◌≡◌};
     ghost use Rattle.hub_base.specs.Notation.{done};

@@ -1,6 +1,6 @@
-//! How cases are put beside their entries, where there is room for them.
+//! How cases are put beside their entries.
 
-ghost use Rattle.std.specs.Prelude.{◌≡◌, ◌≤◌, ◌+◌, ◌++◌, length, vec_len};
+ghost use Rattle.std.specs.Prelude.{◌≡◌, ◌≤◌, ◌+◌, ◌++◌, if◌then◌else◌, is_ok, IsOk, length, vec_len};
 ghost use Rattle.std.specs.Vec.{vec_capacity};
 
 use hub_base::Case;
@@ -28,4 +28,17 @@ pub(crate) fn put_beside(cases: &mut Vec<Case>, beside: &[Case])
         [case] => cases.push_reserved(*case),
         _ => put_several(cases, beside),
     }
+}
+
+/// Appends the cases that are not kept with what is kept of an entry. Mostly there are none, and to append none would take a
+/// fifteenth of a call's instructions.
+#[inline(always)]
+pub(crate) fn append_cases(cases: &mut Vec<Case>, beside: &[Case]) -> Result<(), AllocError>
+    ensures items { cases.new.items ≡ (if is_ok result then cases.old.items ++ beside.now else cases.old.items) }
+    ensures succeeds { vec_len cases.old + length beside.now ≤ vec_capacity cases.old → IsOk result }
+{
+    if beside.is_empty() {
+        return Ok(());
+    }
+    cases.extend_from_slice(beside)
 }

@@ -1,6 +1,6 @@
 //! What is kept of an entry in 16 bytes, and how it is written out.
 
-ghost use Rattle.std.specs.Prelude.{◌≡◌, ◌≤◌, ◌+◌, ◌++◌, ◌∷◌, [], false, if◌then◌else◌, is_ok, IsOk, IfSome, length, slice_get, vec_len};
+ghost use Rattle.std.specs.Prelude.{◌≡◌, ◌≤◌, ◌+◌, ◌++◌, ◌∷◌, [], false, IfSome, length, slice_get, vec_len};
 ghost use Rattle.std.specs.Vec.{vec_capacity};
 ghost use Rattle.hub_base.specs.declared.limits.TheConstants.{CASE_PLACES};
 ghost use Rattle.hub_base.specs.Lines.{by, call};
@@ -8,7 +8,6 @@ ghost use Rattle.hub_core.specs.LogView.{AreBriefs, IsBriefOf, IsWhole, StandFro
 ghost use Rattle.hub_core.specs.LogView.{case_count, cases_beside, entry_of, first_of, own_of, written};
 
 use hub_base::{Case, CaseSlice, Entry, EntryRef, Pid, Port, Step, Value};
-use std::alloc::AllocError;
 
 /// An entry without a list of cases.
 ///
@@ -138,19 +137,6 @@ pub(crate) fn cases_beside<'a>(entry: &EntryRef<'a>, brief: Brief) -> &'a [Case]
         Brief::Call { .. } => entry.step.cases(),
         _ => &[],
     }
-}
-
-/// Appends the cases that are not kept with what is kept of an entry. Mostly there are none, and to append none would take a
-/// fifteenth of a call's instructions.
-#[inline(always)]
-pub(crate) fn append_cases(cases: &mut Vec<Case>, beside: &[Case]) -> Result<(), AllocError>
-    ensures items { cases.new.items ≡ (if is_ok result then cases.old.items ++ beside.now else cases.old.items) }
-    ensures succeeds { vec_len cases.old + length beside.now ≤ vec_capacity cases.old → IsOk result }
-{
-    if beside.is_empty() {
-        return Ok(());
-    }
-    cases.extend_from_slice(beside)
 }
 
 /// A call of one case, which lies there.

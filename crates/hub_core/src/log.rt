@@ -5,16 +5,13 @@
 //! beside them only the cases of a call that has several, or sends bytes; the entries are written out when they are asked
 //! for. Their places are reserved as if they were written, so that this takes no memory.
 
-ghost use Rattle.std.specs.Prelude.{◌≡◌, ◌≤◌, ◌<◌, ◌+◌, ◌++◌, ◌∷◌, [], IsTrue, ◌↔◌, true, false, IfOk, OnOk, OnErr, length, slice_get, vec_len};
+ghost use Rattle.std.specs.Prelude.{◌≡◌, ◌≤◌, ◌<◌, ◌+◌, ◌++◌, ◌∷◌, [], IsTrue, ◌↔◌, true, false, IfOk, IsOk, OnOk, OnErr, length, slice_get, vec_len};
 ghost use Rattle.std.specs.Vec.{vec_capacity};
 ghost use Rattle.hub_core.specs.LogView.{FitsShort, HasRoomFor, places_asked};
 
-mod ending;
-
-use crate::beside::put_beside;
-use crate::brief::{
-    Brief, append_cases, brief_of, brief_of_plain, cases_beside, short_at, write_out,
-};
+use crate::beside::{append_cases, put_beside};
+use crate::brief::{Brief, brief_of, brief_of_plain, cases_beside, short_at, write_out};
+use crate::short_entries::{ShortEntries, shortened};
 use hub_base::{Case, Entry, EntryRef, MOST_PROCS, Step};
 use std::alloc::{AllocError, Global};
 use std::marker::Model;
@@ -56,6 +53,17 @@ fn has_room(briefs: &mut Vec<Brief>, entry: &EntryRef<'_>) -> bool
     }
 }
 
+/// Appends copies of these entries. There is room for them.
+fn push_copies(entries: &mut Vec<Entry>, others: &[Entry])
+    requires { vec_len entries.old + length others.now ≤ vec_capacity entries.old }
+    ensures items { entries.new.items ≡ entries.old.items ++ others.now }
+    ensures capacity { vec_capacity entries.new ≡ vec_capacity entries.old }
+{
+    for entry in others {
+        entries.push_reserved(entry.copy());
+    }
+}
+
 /// The same entries, written out, with room for so many.
 fn copy_whole(alloc: Global, entries: &[Entry], capacity: usize) -> Result<Vec<Entry>, AllocError>
     requires { length entries.now ≤ capacity }
@@ -63,9 +71,7 @@ fn copy_whole(alloc: Global, entries: &[Entry], capacity: usize) -> Result<Vec<E
     ensures capacity { IfOk result (λ v. vec_capacity v ≡ capacity) }
 {
     let mut copy = Vec::with_capacity(alloc, capacity)?;
-    for entry in entries {
-        copy.push_reserved(entry.copy());
-    }
+    push_copies(&mut copy, entries);
     Ok(copy)
 }
 
@@ -76,9 +82,7 @@ fn copy_whole_over(entries: &mut Vec<Entry>, others: &[Entry])
     ensures capacity { vec_capacity entries.new ≡ vec_capacity entries.old }
 {
     entries.clear();
-    for entry in others {
-        entries.push_reserved(entry.copy());
-    }
+    push_copies(entries, others);
 }
 
 /// Puts these items in place of those that are there. There is room for them.
@@ -365,5 +369,23 @@ impl Log {
             cases: _,
         } = log;
         whole
+    }
+
+    /// The entries, each kept short. It takes memory only where some are written out.
+    pub(crate) fn into_short(self, alloc: Global) -> Result<ShortEntries, AllocError>
+        ensures items { IfOk result (λ list. list ≡ self.items) }
+        ensures short { self.short ≡ length self.items → IsOk result }
+    {
+        let mut log = self;
+        if !log.whole.is_empty() {
+            log.write_out();
+            return shortened(alloc, &log.whole);
+        }
+        let Log {
+            whole: _,
+            briefs,
+            cases,
+        } = log;
+        Ok(ShortEntries::of(briefs, cases))
     }
 }

@@ -3,12 +3,11 @@
 ghost use Rattle.std.specs.Prelude.{◌≡◌, ◌<◌, ◌≤◌, ◌+◌, ◌++◌, ◌∷◌, [], IfOk, OnOk, Some, length, slice_get};
 ghost use Rattle.std.specs.Option.{option_map_or};
 ghost use Rattle.hub_base.specs.Values.{cases_or};
+ghost use Rattle.hub_core.specs.LogView.{AreBriefs, StandFrom, written};
 
-mod kept;
-
-use crate::brief::{Brief, append_cases, brief_of, cases_beside, short_at, write_out};
-use hub_base::{Case, EntryRef};
-pub(crate) use kept::shortened;
+use crate::beside::append_cases;
+use crate::brief::{Brief, brief_of, cases_beside, short_at, write_out};
+use hub_base::{Case, Entry, EntryRef};
 use std::alloc::{AllocError, Global};
 use std::marker::Model;
 
@@ -42,6 +41,15 @@ impl ShortEntries {
             briefs: Vec::new(alloc),
             cases: Vec::new(alloc),
         }
+    }
+
+    /// What is kept of entries, as a journal keeps it.
+    pub(crate) fn of(briefs: Vec<Brief>, cases: Vec<Case>) -> ShortEntries
+        requires briefs { AreBriefs briefs.items cases.items }
+        requires begin { StandFrom 0 briefs.items }
+        ensures { result ≡ written briefs.items cases.items }
+    {
+        ShortEntries { briefs, cases }
     }
 
     /// Appends an entry. An `Err` is memory.
@@ -105,11 +113,22 @@ impl ShortEntries {
     }
 
     /// All of them, written out.
-    pub fn write_out(&self, alloc: Global) -> Result<Vec<hub_base::Entry>, AllocError>
+    pub fn write_out(&self, alloc: Global) -> Result<Vec<Entry>, AllocError>
         ensures { IfOk result (λ entries. entries.items ≡ self.now) }
     {
         let mut entries = Vec::with_capacity(alloc, self.len())?;
         write_out(&mut entries, &self.briefs, &self.cases);
         Ok(entries)
     }
+}
+
+/// These entries, kept short. An `Err` is memory.
+pub(crate) fn shortened(alloc: Global, entries: &[Entry]) -> Result<ShortEntries, AllocError>
+    ensures { IfOk result (λ list. list ≡ entries.now) }
+{
+    let mut list = ShortEntries::new(alloc);
+    for entry in entries {
+        list.push(&entry.by_slice())?;
+    }
+    Ok(list)
 }

@@ -4,7 +4,7 @@
 //! exit of each process from the opening on, and for the steps that were reserved; so neither an
 //! exit nor a reserved step asks for memory.
 
-ghost use Rattle.std.specs.Prelude.{◌≡◌, ◌≤◌, ◌<◌, ◌+◌, ◌-◌, ◌^◌, ◌↔◌, ◌++◌, ◌∷◌, ℕ, Bool, List, [], IsTrue, IfOk, IfErr, OnOk, OnErr, length, max, slice_get, true};
+ghost use Rattle.std.specs.Prelude.{◌≡◌, ◌≤◌, ◌<◌, ◌+◌, ◌-◌, ◌^◌, ◌↔◌, ◌++◌, ◌∷◌, ℕ, Bool, List, [], IsTrue, IfOk, IfErr, IsOk, OnOk, OnErr, length, max, slice_get, true};
 ghost use Rattle.hub_base.specs.Entry.{Entry};
 ghost use Rattle.hub_base.specs.declared.value.Pid.{Pid};
 ghost use Rattle.hub_base.specs.Head.{IsHead, AreOf, head_of, is_of};
@@ -19,11 +19,9 @@ ghost use Rattle.hub_core.specs.HubKeeps.{count_after, Takes};
 ghost use Rattle.hub_core.specs.Prelude.{MOST_EVENTS};
 ghost use Rattle.hub_core.specs.declared.short_hub.Form.TheVariants.{Whole};
 
-mod ending;
-
 use crate::log::Log;
 use crate::machine::empty;
-use crate::{Machine, OpenFault, Terms};
+use crate::{Machine, OpenFault, ShortJournal, Terms};
 use hub_base::{
     Cases, Edition, Entry, EntryRef, Events, Fault, Head, Hears, Journal, Look, MOST_PROCS,
     MOST_STEPS, NoMemory, Pid, Port, Step, StepRef, Value,
@@ -377,5 +375,18 @@ impl ShortHub {
     {
         let Head { edition, procs } = self.terms.head;
         Journal::of(edition, procs, self.entries.into_vec())
+    }
+
+    /// The journal of the hub, which ends, kept short. It takes memory only where some of its entries are written out; an
+    /// `Err` is memory.
+    pub fn into_short_journal(self, alloc: Global) -> Result<ShortJournal, NoMemory>
+        ensures journal { IfOk result (λ j. j ≡ record { head = self.memory.hub.terms.head; entries = self.memory.hub.journal }) }
+        ensures legal { kept self.memory.hub.terms.head self.memory.hub.journal ≡ self.memory.hub.journal }
+        ensures fits { AreOf self.memory.hub.terms.head.edition self.memory.hub.journal }
+        ensures short { self.short ≡ length self.memory.hub.journal → IsOk result }
+    {
+        let head = self.terms.head;
+        let list = self.entries.into_short(alloc)?;
+        Ok(ShortJournal::of(head, list))
     }
 }

@@ -1,19 +1,20 @@
-//! A journal whose entries are kept short, and how it is read.
+//! A journal whose entries are kept short, and how it is read and written.
 
-ghost use Rattle.std.specs.Prelude.{◌≡◌, IfOk, IfErr};
-ghost use Rattle.hub_base.specs.Head.{AreOf};
-ghost use Rattle.hub_base.specs.Reading.{read_text};
-ghost use Rattle.hub_text.specs.ReadJournal.{Gives, IsFaultOf};
+ghost use Rattle.std.specs.Prelude.{◌≡◌, ◌≤◌, ◌++◌, ℕ, List, IfOk, IfErr, IsOk, OnOk, OnErr};
+ghost use Rattle.std.specs.List.{flat_map};
+ghost use Rattle.std.specs.Vec.{vec_capacity};
+ghost use Rattle.hub_base.specs.Head.{AreOf, IsHead};
+ghost use Rattle.hub_base.specs.Lines.{line};
+ghost use Rattle.hub_base.specs.Reading.{read_text, text};
 ghost use Rattle.hub_base.specs.Text.{IsText};
-
-mod written;
+ghost use Rattle.hub_text.specs.ReadJournal.{Gives, IsFaultOf};
+ghost use Rattle.hub_text.specs.Writing.{HasRoomFor};
 
 use crate::ShortEntries;
-use hub_base::{Entry, Head, Journal, NoMemory, ReadFault};
-use hub_text::Reader;
+use hub_base::{Case, Edition, Entry, Head, Journal, NoMemory, ReadFault};
+use hub_text::{Reader, write_entry, write_head};
 use std::alloc::Global;
 use std::marker::Model;
-pub use written::write_short_journal;
 
 /// What a `Journal` holds, in less memory.
 #[derive(Drop)]
@@ -33,6 +34,13 @@ impl Model for ShortJournal {
 }
 
 impl ShortJournal {
+    /// The journal of these entries.
+    pub(crate) fn of(head: Head, list: ShortEntries) -> ShortJournal
+        ensures { result ≡ record { head = head; entries = list } }
+    {
+        ShortJournal { head, list }
+    }
+
     /// What the head lines say.
     pub fn head(&self) -> Head
         ensures { result ≡ self.now.head }
@@ -101,4 +109,42 @@ pub fn read_short_journal(alloc: Global, bytes: &[u8]) -> Result<ShortJournal, R
     ensures exact { Gives result (read_text bytes.now) }
 {
     read_all(alloc, bytes)
+}
+
+/// Appends the line of each entry. Where memory is refused, some may have been appended.
+fn write_lines(out: &mut Vec<u8>, edition: Edition, entries: &ShortEntries) -> Result<(), NoMemory>
+    requires fits { AreOf edition entries.now }
+    ensures ok { OnOk result (out.new.items ≡ out.old.items ++ flat_map line entries.now) }
+    ensures err { OnErr result ((rest : List ℕ) × (out.new.items ≡ out.old.items ++ rest)) }
+    ensures capacity { vec_capacity out.old ≤ vec_capacity out.new }
+    ensures succeeds { HasRoomFor out.old (flat_map line entries.now) → IsOk result }
+{
+    let mut one = Case::default();
+    for place in 0..entries.len() {
+        write_entry(out, edition, &entries.entry(place, &mut one))?;
+    }
+    Ok(())
+}
+
+/// Appends the text of a journal of 1 to `MOST_PROCS` processes whose edition has each of its entries, as `write_journal` does;
+/// `Err` where a growth was refused, with nothing appended. It is read again as this journal.
+pub fn write_short_journal(out: &mut Vec<u8>, journal: &ShortJournal) -> Result<(), NoMemory>
+    requires head { IsHead journal.now.head }
+    requires fits { AreOf journal.now.head.edition journal.now.entries }
+    ensures ok { OnOk result (
+        out.new.items ≡ out.old.items ++ text journal.now.head journal.now.entries) }
+    ensures err { OnErr result (out.new.items ≡ out.old.items) }
+    ensures capacity { vec_capacity out.old ≤ vec_capacity out.new }
+    ensures succeeds { HasRoomFor out.old (text journal.now.head journal.now.entries) → IsOk result }
+{
+    let before = out.len();
+    let head = journal.head();
+    write_head(out, head.edition, head.procs)?;
+    match write_lines(out, head.edition, journal.entries()) {
+        Ok(()) => Ok(()),
+        Err(NoMemory) => {
+            out.truncate(before);
+            Err(NoMemory)
+        }
+    }
 }

@@ -41,7 +41,7 @@ told_one chapters old e new told s none =
 
 -- the uncut hub, with the answers that wait
 abbrev uncut_locked : Chapters → EndlessView → LockedView
-uncut_locked chapters l = record { hub = uncut chapters l.recorder; answers = l.answers; ended = l.ended }
+uncut_locked chapters l = record { hub = uncut chapters l.recorder; answers = l.answers; last = l.last; ended = l.ended }
 
 lawful : (chapters : Chapters) (l : EndlessView) → length l.answers ≡ MOST_PROCS → Explains chapters l → IsLawful (uncut chapters l.recorder) l.answers
 lawful chapters l places so = record {
@@ -80,10 +80,11 @@ serves_next chapters old e new answer ended places room so s answers pids =
     let after : LockedView = record {
       hub = with_entry e (uncut chapters old.recorder);
       answers = new.answers;
+      last = answer;
       ended = new.ended;
     } in
     let next = lawful_served (uncut_locked chapters old) after e answer (lawful chapters old places so)
-    (record { ended = ended; step = steps; places = room; answers = answers; pids = pids }) in
+    (record { ended = ended; step = steps; places = room; answers = answers; last = refl; pids = pids }) in
     record {
       goes_on = goes;
       reply = answer_replies (uncut chapters old.recorder) (with_entry e (uncut chapters old.recorder)) e answer ended steps;
@@ -94,17 +95,18 @@ serves_next chapters old e new answer ended places room so s answers pids =
     }
 
 -- and once its events were heard
-pub serves_made : (old : EndlessView) (e : Entry) (new : RecorderView) (told : List Event) (b : AnswersView) (answer : Event) → EndlessKeeps old
-    → RecordsStep old.recorder e new told → Keeps old.answers told b answer → ServesMade old e (endless_view new b.waiting b.ended) answer
-serves_made old e new told b answer keeps s k =
+pub serves_made : (old : EndlessView) (e : Entry) (new : RecorderView) (told : List Event) (b : AnswersView) → EndlessKeeps old
+    → RecordsStep old.recorder e new told → Keeps old.answers told b b.last → ServesMade old e (endless_view new b.waiting b.last b.ended) b.last
+serves_made old e new told b keeps s k =
     let (chapters, so) = keeps.explained in
     let answers : (q : ℕ) → q < MOST_PROCS → answer_for b.waiting q ≡ answer_after old.answers e.pid k.ended q =
-    λ q lt. answers_for chapters old e new told b answer (s.goes_on chapters so.records) k q (omega (arith, keeps.places, lt)) in
+    λ q lt. answers_for chapters old e new told b b.last (s.goes_on chapters so.records) k q (omega (arith, keeps.places, lt)) in
     record {
       ended = k.ended;
-      next = λ chapters so. serves_next chapters old e (endless_view new b.waiting b.ended) answer k.ended keeps.places (k.places ∙ keeps.places) so
+      next = λ chapters so. serves_next chapters old e (endless_view new b.waiting b.last b.ended) b.last k.ended keeps.places (k.places ∙ keeps.places) so
           (subst (RecordsStep old.recorder e new) k.told s) answers k.pids;
       answers = answers;
+      last = refl;
       pids = k.pids;
       terms = s.terms;
       keep = s.keep;

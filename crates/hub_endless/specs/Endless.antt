@@ -17,11 +17,13 @@ pub record EndlessView : Type 0 where
   pub recorder : RecorderView
   -- for each number that a process may have the answer that waits for that process, if one does
   pub answers : List (Option Event)
-  -- whose calls the last step that was made ended, in the order in which they were told
+  -- what the last step that was made was answered; before the first, that process 0 is done
+  pub last : Event
+  -- whose calls that step ended, in the order in which they were told
   pub ended : List Pid
 
-abbrev pub endless_view : RecorderView → List (Option Event) → List Pid → EndlessView
-endless_view recorder answers ended = record { recorder = recorder; answers = answers; ended = ended }
+abbrev pub endless_view : RecorderView → List (Option Event) → Event → List Pid → EndlessView
+endless_view recorder answers last ended = record { recorder = recorder; answers = answers; last = last; ended = ended }
 
 -- the hub stands at the end of these chapters, and each answer that waits is its process's reply in their whole history
 pub record Explains (chapters : Chapters) (l : EndlessView) : Type 0 where
@@ -47,12 +49,13 @@ pub record ServesNext (chapters : Chapters) (old : EndlessView) (e : Entry) (new
       IsReplyTo (head_of_all old.recorder) e.pid.0 (history chapters ++ e ∷ []) answer
   pub explains : Explains (with_next (begins old.recorder e.step) chapters e) new
 
--- a step that was made: it ended these calls; what waits for each process; and whose calls those are
+-- a step that was made: it ended these calls; what waits for each process; where the answer lies; and whose calls those are
 pub record ServesMade (old : EndlessView) (e : Entry) (new : EndlessView) (answer : Event) : Type 0 where
   pub ended : List Event
   pub next : (chapters : Chapters) → Explains chapters old → ServesNext chapters old e new answer ended
   pub answers :
       (q : ℕ) → q < MOST_PROCS → answer_for new.answers q ≡ answer_after old.answers e.pid ended q
+  pub last : new.last ≡ answer
   pub pids : new.ended ≡ pids_of ended
   pub terms : new.recorder.hub.terms ≡ old.recorder.hub.terms
   pub keep : new.recorder.keep ≡ old.recorder.keep
@@ -69,12 +72,13 @@ pub record ServesOn (old : EndlessView) (e : Entry) (new : EndlessView) (result 
 -- nothing waits for process q any longer, and all else is as before
 abbrev pub without_answer : EndlessView → ℕ → EndlessView
 without_answer l q =
-    record { recorder = l.recorder; answers = slice_set l.answers q None; ended = l.ended }
+    record { recorder = l.recorder; answers = slice_set l.answers q None; last = l.last; ended = l.ended }
 
 -- a cut that was asked for: the chapters go on behind a checkpoint, and what waits waits on
 pub record CutsNow (old new : EndlessView) : Type 0 where
   pub explains : (chapters : Chapters) → Explains chapters old → Explains (Cut chapters []) new
   pub answers : new.answers ≡ old.answers
+  pub last : new.last ≡ old.last
   pub ended : new.ended ≡ old.ended
   pub terms : new.recorder.hub.terms ≡ old.recorder.hub.terms
   pub keep : new.recorder.keep ≡ old.recorder.keep

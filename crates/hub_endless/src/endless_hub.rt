@@ -1,7 +1,9 @@
 //! A hub that never ends, with the answers that wait.
 
-ghost use Rattle.std.specs.Prelude.{◌≡◌, ◌<◌, ◌↔◌, [], IsTrue, length, IfOk, IfErr, IfSome, IfNone, OnOk, OnErr, None, false, true};
+ghost use Rattle.std.specs.Prelude.{◌≡◌, ◌<◌, ◌↔◌, [], IsTrue, length, IfOk, IfErr, IfSome, IfNone, OnOk, OnErr, None, Ok, false, true};
 ghost use Rattle.std.specs.Option.{option_map};
+ghost use Rattle.std.specs.Result.{result_and};
+ghost use Rattle.hub_base.specs.Notation.{done};
 ghost use Rattle.hub_base.specs.Head.{is_of};
 ghost use Rattle.hub_base.specs.Runs.{state};
 ghost use Rattle.hub_base.specs.declared.limits.TheConstants.{MOST_STEPS};
@@ -26,7 +28,7 @@ use std::marker::Model;
 pub struct EndlessHub {
     /// The hub, which keeps its last two chapters.
     recorder: Recorder,
-    /// The answers that wait, and whose calls the last step that was made ended.
+    /// The answers that wait, what the last step that was made was answered, and whose calls it ended.
     answers: Answers,
 }
 
@@ -35,9 +37,9 @@ impl Model for EndlessHub {
 
     ghost Value = { EndlessView };
 
-    ghost view = { λ l. endless_view l.recorder l.answers.waiting l.answers.ended };
+    ghost view = { λ l. endless_view l.recorder l.answers.waiting l.answers.last l.answers.ended };
 
-    ghost invariant = { λ l. EndlessKeeps (endless_view l.recorder l.answers.waiting l.answers.ended) };
+    ghost invariant = { λ l. EndlessKeeps (endless_view l.recorder l.answers.waiting l.answers.last l.answers.ended) };
 }
 
 impl EndlessHub {
@@ -54,6 +56,7 @@ impl EndlessHub {
         requires keep { IsKeep keep }
         ensures ok { IfOk result (λ l. Explains (First []) l) }
         ensures none { IfOk result (λ l. NoneWaits l) }
+        ensures last { IfOk result (λ l. l.last ≡ done 0) }
         ensures terms { IfOk result (λ l. l.recorder.hub.terms ≡ terms_of edition procs MOST_STEPS) }
         ensures keep { IfOk result (λ l. l.recorder.keep ≡ keep) }
         ensures early { IfOk result (λ l. l.recorder.early ≡ false) }
@@ -66,22 +69,19 @@ impl EndlessHub {
         })
     }
 
-    /// Makes a step that the hub's edition has, and gives its answer, the first of its events. What waited for the caller is
-    /// dropped. Each event that follows, which ends a call, waits for its process, also a `Stalled` that follows the
-    /// caller's own `Parked`.
+    /// Makes a step that the hub's edition has. `answer` then gives its answer, the first of its events, until the next step is
+    /// made. What waited for the caller is dropped. Each event that follows, which ends a call, waits for its process, also a
+    /// `Stalled` that follows the caller's own `Parked`.
     ///
     /// If the step begins a chapter, the present one is cut first, and the chapter before it is handed out into `out`, if
     /// there is one, which must be empty then. So each chapter is handed out once, in order.
     ///
     /// The only refusals are `NoProcess`, `Gone`, `Busy` and `NoMemory`, tested in this order; an exit is never refused by
     /// `NoMemory`. After a refusal nothing has changed.
-    ///
-    /// It is inlined, so that the answer is not copied on its way to the caller.
-    #[inline(always)]
-    pub fn step(&mut self, entry: &EntryRef<'_>, out: &mut Option<ShortHub>) -> Result<Event, Fault>
+    pub fn step(&mut self, entry: &EntryRef<'_>, out: &mut Option<ShortHub>) -> Result<(), Fault>
         requires fits { is_of (head_of_all self.old.recorder).edition entry.now.step ≡ true }
         requires empty { begins self.old.recorder entry.now.step ≡ true → out.old ≡ None }
-        ensures rules { ServesOn self.old entry.now self.new result }
+        ensures rules { ServesOn self.old entry.now self.new (result_and result (Ok self.new.last)) }
         ensures handed_out { OnOk result (option_map hub_in out.new
             ≡ out_or (chapter_out self.old.recorder entry.now.step) (option_map hub_in out.old)) }
         ensures text { OnOk result (IfSome (chapter_out self.old.recorder entry.now.step) FitsText) }
@@ -89,10 +89,15 @@ impl EndlessHub {
     {
         self.answers.begin();
         self.recorder.step_heard(entry, &mut self.answers, out)?;
-        match self.answers.own() {
-            Some(answer) => Ok(*answer),
-            None => unreachable!(),
-        }
+        Ok(())
+    }
+
+    /// What the last step that was made was answered; before the first, that process 0 is done.
+    #[inline(always)]
+    pub fn answer(&self) -> &Event
+        ensures { result.now ≡ self.now.last }
+    {
+        self.answers.last()
     }
 
     /// Takes out the answer that waits for a process: the process's reply in the whole history, and the process has no open

@@ -83,10 +83,8 @@ fn pass(hub: &mut Locked, entry: &EntryRef<'_>) -> Result<Event, NotMade>
     requires fits { is_of hub.old.hub.terms.head.edition entry.now.step ≡ true }
     ensures { Passes hub.old entry.now hub.new result }
 {
-    match hub.step(entry) {
-        Ok(answer) => Ok(answer),
-        Err(fault) => Err(NotMade::Refused(fault)),
-    }
+    hub.step(entry).map_err(NotMade::Refused)?;
+    Ok(*hub.answer())
 }
 
 /// A hub that follows a journal, and for each process an answer that may wait to be picked up.
@@ -149,8 +147,8 @@ impl Follower {
         }
     }
 
-    /// Makes a step that the hub's edition has, if it is the next of the journal, and gives its answer, as `Locked::step`
-    /// does. After a divergence, and once all of the journal is made, it makes any step, or none, as the opening said.
+    /// Makes a step that the hub's edition has, as `Locked::step` does, if it is the next of the journal, and gives its answer.
+    /// After a divergence, and once all of the journal is made, it makes any step, or none, as the opening said.
     ///
     /// A step of a process whose steps are not admitted now is refused as `Locked::step` refuses it.
     pub fn step(&mut self, entry: &EntryRef<'_>) -> Result<Event, NotMade>

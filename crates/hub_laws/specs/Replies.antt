@@ -5,14 +5,9 @@ use Rattle.std.specs.List.{list_any, AllByRecursion}
 use Rattle.hub_base.specs.Entry.{Entry}
 use Rattle.hub_base.specs.declared.head.Head.{Head}
 use Rattle.hub_base.specs.declared.event.Event.{Event}
-use Rattle.hub_base.specs.declared.event.What.{What}
-use Rattle.hub_base.specs.declared.event.What.TheVariants as what
 use Rattle.hub_base.specs.Steps.{is_waiting, refusal}
+pub use Rattle.hub_base.specs.Values.{is_parked}
 use Rattle.hub_base.specs.Runs.{state, events, events_after, moves}
-
-abbrev pub is_parked : What → Bool
-is_parked what.Parked = true
-is_parked w = false
 
 abbrev pub last_from : {A : Type 0} → Option A → List A → Option A
 last_from o [] = o

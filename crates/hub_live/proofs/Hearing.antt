@@ -1,5 +1,5 @@
 -- What waits for a process once the events of a step were heard.
-use Rattle.std.proofs.Common.{◌≡◌, ◌<◌, ◌==◌, ◌++◌, ◌∷◌, [], ℕ, List, length, cond, refl, ap, ◌∙◌, sym, subst, Option, Some, None, arith, append_assoc}
+use Rattle.std.proofs.Common.{◌≡◌, ◌<◌, ◌++◌, ◌∷◌, [], ℕ, List, length, refl, ap, true, ◌∙◌, sym, subst, Option, Some, None, arith, append_assoc}
 use Rattle.std.specs.Prelude.{slice_set}
 use Rattle.std.proofs.lemmas.List.{append-nil, length-set}
 use Rattle.hub_base.specs.declared.limits.TheConstants.{MOST_PROCS}
@@ -10,9 +10,9 @@ use Rattle.hub_live.proofs.Locks.{answer_for-set, last_told-cons, told_caller}
 
 -- behind the answer to the step
 abbrev behind : Event → List (Option Event) → List Pid → AnswersView
-behind own waiting ended = record { waiting = waiting; own = Some own; ended = ended }
+behind own waiting ended = record { waiting = waiting; last = own; told = true; ended = ended }
 
-rest-own : (own : Event) (ws : List (Option Event)) (ended : List Pid) (xs : List Event) → (hears_all (behind own ws ended) xs).own ≡ Some own
+rest-own : (own : Event) (ws : List (Option Event)) (ended : List Pid) (xs : List Event) → (hears_all (behind own ws ended) xs).last ≡ own
 rest-own own ws ended [] = refl
 rest-own own ws ended (x ∷ xs) = rest-own own (slice_set ws x.pid.0 (Some x)) (ended ++ x.pid ∷ []) xs
 
@@ -36,20 +36,13 @@ rest-waits own ws ended (x ∷ xs) q lt =
     ∙ ap (λ (o : Option Event). last_told q o xs) (answer_for-set ws x.pid.0 q (Some x) lt)
     ∙ sym (last_told-cons q (answer_for ws q) x xs)
 
-some_same : (x y : Event) → Some x ≡ Some y → x ≡ y
-some_same x y is = cc
-
--- where the first of some events was heard, it is the answer
-pub kept : (a b : AnswersView) (told : List Event) (answer : Event) → b ≡ hears_all (begun a) told → b.own ≡ Some answer
-    → Keeps a.waiting told b answer
-kept a b [] answer heard own =
-    let none : None ≡ Some answer = sym (ap (λ (k : AnswersView). k.own) heard) ∙ own in
-    absurd (let g : ⊥ = cc in g)
-kept a b (x ∷ xs) answer heard own =
+-- where some events were heard, the first is the answer
+pub kept : (a b : AnswersView) (told : List Event) → b ≡ hears_all (begun a) told → (length told ≡ 0 → ⊥) → Keeps a.waiting told b b.last
+kept a b [] heard some = absurd (some refl)
+kept a b (x ∷ xs) heard some =
     let cleared = slice_set a.waiting x.pid.0 None in
     let places : length cleared ≡ length a.waiting = length-set a.waiting x.pid.0 None in
-    let is : x ≡ answer =
-    some_same x answer (sym (rest-own x cleared [] xs) ∙ sym (ap (λ (k : AnswersView). k.own) heard) ∙ own) in
+    let is : x ≡ b.last = sym (rest-own x cleared [] xs) ∙ sym (ap (λ (k : AnswersView). k.last) heard) in
     subst (Keeps a.waiting (x ∷ xs) b) is (subst (λ (k : AnswersView). Keeps a.waiting (x ∷ xs) k x) (sym heard) (record {
       ended = xs;
       told = refl;
@@ -60,26 +53,19 @@ kept a b (x ∷ xs) answer heard own =
       pids = rest-ended x cleared [] xs;
     }))
 
--- and there is one
-pub answered : (a b : AnswersView) (told : List Event) → b ≡ hears_all (begun a) told → b.own ≡ None → length told ≡ 0
-answered a b [] heard none = refl
-answered a b (x ∷ xs) heard none =
-    let own : Some x ≡ None =
-    sym (rest-own x (slice_set a.waiting x.pid.0 None) [] xs) ∙ sym (ap (λ (k : AnswersView). k.own) heard) ∙ none in
-    absurd (let g : ⊥ = cc in g)
-
 -- the events of a step of a locked hub lie in their places
-pub serves_heard : (old : LockedView) (e : Entry) (hub : HubView) (told : List Event) (b : AnswersView) (answer : Event)
-    → length old.answers ≡ MOST_PROCS → Steps old.hub e hub told → Keeps old.answers told b answer
-    → Serves old e (record { hub = hub; answers = b.waiting; ended = b.ended }) answer
-serves_heard old e hub told b answer places s k =
-    let steps : Steps old.hub e hub (answer ∷ k.ended) = subst (Steps old.hub e hub) k.told s in
+pub serves_heard : (old : LockedView) (e : Entry) (hub : HubView) (told : List Event) (b : AnswersView)
+    → length old.answers ≡ MOST_PROCS → Steps old.hub e hub told → Keeps old.answers told b b.last
+    → Serves old e (record { hub = hub; answers = b.waiting; last = b.last; ended = b.ended }) b.last
+serves_heard old e hub told b places s k =
+    let steps : Steps old.hub e hub (b.last ∷ k.ended) = subst (Steps old.hub e hub) k.told s in
     record {
       ended = k.ended;
       step = steps;
       places = k.places ∙ places;
       answers = λ q lt.
           k.answers q (omega (arith, places, lt))
-          ∙ ap (λ (p : Pid). answer_after old.answers p k.ended q) (told_caller old.hub hub e answer k.ended steps);
+          ∙ ap (λ (p : Pid). answer_after old.answers p k.ended q) (told_caller old.hub hub e b.last k.ended steps);
+      last = refl;
       pids = k.pids;
     }

@@ -8,6 +8,7 @@ use Rattle.hub_base.specs.declared.value.Pid.{Pid}
 use Rattle.hub_base.specs.Entry.{Entry}
 use Rattle.hub_base.specs.declared.event.Event.{Event}
 use Rattle.hub_base.specs.declared.fault.Fault.{Fault}
+use Rattle.hub_base.specs.Notation.{done}
 use Rattle.hub_base.specs.declared.limits.TheConstants.{MOST_PROCS}
 use Rattle.hub_base.specs.Steps.{is_waiting}
 use Rattle.hub_laws.specs.Journals.{IsLegal}
@@ -20,16 +21,18 @@ pub record LockedView : Type 0 where
   pub hub : HubView
   -- for each number that a process may have the answer that waits for that process, if one does
   pub answers : List (Option Event)
-  -- whose calls the last step that was made ended, in the order in which they were told
+  -- what the last step that was made here was answered; before the first here, that process 0 is done
+  pub last : Event
+  -- whose calls that step ended, in the order in which they were told
   pub ended : List Pid
 
 -- the answer that waits for process q, if one does
 abbrev pub answer_for : List (Option Event) → ℕ → Option Event
 answer_for answers q = slice_index_or answers q None
 
--- a hub for which no answer waits
+-- a hub for which no answer waits, and at which no step was made with it
 abbrev pub none_waits : HubView → LockedView
-none_waits hub = record { hub = hub; answers = replicate MOST_PROCS None; ended = [] }
+none_waits hub = record { hub = hub; answers = replicate MOST_PROCS None; last = done 0; ended = [] }
 
 -- ---- what every locked hub keeps
 
@@ -62,13 +65,14 @@ abbrev pub pids_of : List Event → List Pid
 pids_of xs = map (λ x. x.pid) xs
 
 -- a step that was made: what the hub leaves and tells, which is the answer and then the calls that
--- ended; what waits for each process; and whose calls those are
+-- ended; what waits for each process; where the answer lies; and whose calls those are
 pub record Serves (old : LockedView) (e : Entry) (new : LockedView) (answer : Event) : Type 0 where
   pub ended : List Event
   pub step : Steps old.hub e new.hub (answer ∷ ended)
   pub places : length new.answers ≡ MOST_PROCS
   pub answers :
       (q : ℕ) → q < MOST_PROCS → answer_for new.answers q ≡ answer_after old.answers e.pid ended q
+  pub last : new.last ≡ answer
   pub pids : new.ended ≡ pids_of ended
 
 -- a step of the locked hub that was made or refused, and what is answered. An answer that is not `Parked` is
@@ -85,4 +89,4 @@ pub record ServesStep (old : LockedView) (e : Entry) (new : LockedView) (result 
 -- nothing waits for process q any longer, and all else is as before
 abbrev pub without_answer : LockedView → ℕ → LockedView
 without_answer l q =
-    record { hub = l.hub; answers = slice_set l.answers q None; ended = l.ended }
+    record { hub = l.hub; answers = slice_set l.answers q None; last = l.last; ended = l.ended }

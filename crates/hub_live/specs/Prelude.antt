@@ -38,4 +38,4 @@ pub use Rattle.hub_live.specs.Named.{IsSingle, IsToken}
 pub use Rattle.hub_live.specs.SeatView.{IsFree, IsIdle, SeatView, own_of, state_seen}
 pub use Rattle.hub_live.specs.Seated.{IsAlone, IsHub, seat_of, IsDesk}
 pub use Rattle.hub_live.specs.Calls.{AreSeats, Later, MadeEntry, Shows, StandsIn, Made, Refused, RefusedEntry, Answers, AnswersNoCall}
-pub use Rattle.hub_live.specs.Calls.{AskedNothing, HasEnded, Tells, Told, ServesSeat, EndsIn}
+pub use Rattle.hub_live.specs.Calls.{AskedNothing, HasEnded, Tells, Told, ServesSeat, EndsIn, entry_of}

@@ -3,8 +3,7 @@
 //! They hear the events of a step. The first is the answer to the step, and whatever waited for its caller is dropped. Each that
 //! follows ends the call of a process, and waits in that process's place until it is picked up.
 
-ghost use Rattle.std.specs.Prelude.{◌≡◌, ◌<◌, ◌↔◌, IsTrue, length, slice_set};
-ghost use Rattle.std.specs.Option.{option_map};
+ghost use Rattle.std.specs.Prelude.{◌≡◌, ◌<◌, ◌↔◌, IsTrue, None, Some, length, slice_set};
 ghost use Rattle.hub_live.specs.Locked.{answer_for};
 ghost use Rattle.hub_live.specs.Answers.{begun, no_answers, without_answer_for};
 
@@ -20,8 +19,10 @@ pub type Pids = ArrayVec<Pid, MOST_PROCS>;
 pub struct Answers {
     /// The answer that waits for each process, by its number.
     waiting: [Option<Event>; MOST_PROCS],
-    /// The answer to the step that is being made, once it was heard.
-    own: Option<Event>,
+    /// What the last step that was heard was answered; before the first, that process 0 is done.
+    last: Event,
+    /// Whether the step that is being made was answered.
+    told: bool,
     /// Whose calls the last step that was made ended.
     ended: Pids,
 }
@@ -33,19 +34,30 @@ impl Model for Answers {
 
     ghost Value = { AnswersView };
 
-    ghost view = { λ a. record { waiting = a.waiting; own = a.own; ended = a.ended.items } };
+    ghost view = { λ a. record { waiting = a.waiting; last = a.last; told = a.told; ended = a.ended.items } };
 
     ghost invariant = { λ a. length a.waiting ≡ MOST_PROCS };
 }
 
-/// Puts an answer, or none, into the place of a process, where it has one.
+/// Puts an answer into the place of its process, where it has one.
 #[inline(always)]
-fn put(waiting: &mut [Option<Event>], pid: Pid, answer: Option<Event>)
-    ensures { waiting.new ≡ slice_set waiting.old pid.0 answer }
+fn put(waiting: &mut [Option<Event>], answer: Event)
+    ensures { waiting.new ≡ slice_set waiting.old answer.pid.0 (Some answer) }
+{
+    let place = usize::from(answer.pid.0);
+    if place < waiting.len() {
+        waiting[place] = Some(answer);
+    }
+}
+
+/// Empties the place of a process, where there is such a place. Mostly it is empty, and to look takes one load in place of five stores.
+#[inline(always)]
+fn clear(waiting: &mut [Option<Event>], pid: Pid)
+    ensures { waiting.new ≡ slice_set waiting.old pid.0 None }
 {
     let place = usize::from(pid.0);
-    if place < waiting.len() {
-        waiting[place] = answer;
+    if place < waiting.len() && waiting[place].is_some() {
+        waiting[place] = None;
     }
 }
 
@@ -56,25 +68,26 @@ impl Answers {
     {
         Answers {
             waiting: [None; MOST_PROCS],
-            own: None,
+            last: Event::default(),
+            told: false,
             ended: Pids::new(),
         }
     }
 
-    /// Before a step.
+    /// Begins a step: the next event that is heard is its answer. Until then the answer before stays.
     #[inline(always)]
     pub fn begin(&mut self)
         ensures { self.new ≡ begun self.old }
     {
-        self.own = None;
+        self.told = false;
     }
 
-    /// The answer to the last step, if one was heard.
+    /// What the last step that was heard was answered; before the first, that process 0 is done.
     #[inline(always)]
-    pub fn own(&self) -> Option<&Event>
-        ensures { option_map (λ x. x.now) result ≡ self.now.own }
+    pub fn last(&self) -> &Event
+        ensures { result.now ≡ self.now.last }
     {
-        self.own.as_ref()
+        &self.last
     }
 
     /// Takes out the answer that waits for a process. `None` where none does, and where there is no such process.
@@ -116,7 +129,7 @@ impl Hears for Answers {
 
     ghost heard = { λ old told new. new ≡ hears_all old told };
 
-    ghost room = { λ a. room_by a.ended a.own };
+    ghost room = { λ a. room_by a.ended a.told };
 
     ghost begins = { λ a. refl };
 
@@ -125,13 +138,14 @@ impl Hears for Answers {
 
     #[inline(always)]
     fn hear(&mut self, event: Event) {
-        if self.own.is_none() {
-            put(&mut self.waiting, event.pid, None);
-            self.ended.clear();
-            self.own = Some(event);
-        } else {
-            put(&mut self.waiting, event.pid, Some(event));
+        if self.told {
+            put(&mut self.waiting, event);
             self.ended.push(event.pid);
+        } else {
+            clear(&mut self.waiting, event.pid);
+            self.ended.clear();
+            self.last = event;
+            self.told = true;
         }
     }
 }

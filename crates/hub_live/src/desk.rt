@@ -4,12 +4,11 @@
 //! A step joins the caller's seat to the hub's before the journal changes and parts it afterwards,
 //! since a store is judged by what the seat that stores knows.
 
-ghost use Rattle.std.specs.Prelude.{◌≡◌, ◌≤◌, ◌<◌, ◌+◌, ◌↔◌, IsTrue, ◌++◌, ◌∷◌, [], List, length, Some, None, true, false, IfSome, IfNone, OnSome, All};
+ghost use Rattle.std.specs.Prelude.{◌≡◌, ◌≤◌, ◌<◌, ◌+◌, ◌↔◌, IsTrue, ◌++◌, ◌∷◌, [], List, length, Some, None, Ok, true, false, IfOk, IfSome, IfNone, OnSome, All};
+ghost use Rattle.std.specs.Result.{result_and};
 ghost use Rattle.hub_live.specs.Prelude.{AreOf, is_of, IsPrefix, Entry, steps_of, IsLegal, number_of, port_changed_by, state_of, mark_at};
 ghost use Rattle.hub_live.specs.Prelude.{answer_for, without_answer, IsReplyTo, IsHistory, IsFree, own_of, IsDesk};
 ghost use Rattle.hub_live.specs.Prelude.{ServesSeat, StandsIn};
-
-mod ending;
 
 use crate::answers::Pids;
 use crate::locked::Locked;
@@ -18,8 +17,9 @@ use crate::name::HubName;
 use crate::rule::Token;
 use crate::seat::{InnerSeat, Seat};
 use crate::words::Words;
-use hub_base::{EntryRef, Event, Fault, Journal, MOST_STEPS, Pid, Port, StepRef, What};
-use hub_core::port_changed;
+use hub_base::{EntryRef, Event, Fault, Journal, MOST_STEPS, NoMemory, Pid, Port, StepRef, What};
+use hub_core::{ShortJournal, port_changed};
+use std::alloc::Global;
 use std::marker::{Model, PhantomData};
 
 /// The locked hub, and the hub's own seat. To a contract it is the locked hub.
@@ -46,8 +46,8 @@ impl<K: HubName> Model for Desk<K> {
 }
 
 /// The port that a step with this answer changed, port 0 for none.
-fn changed(step: &StepRef<'_>, answer: What) -> Port
-    ensures { result.0 ≡ number_of (port_changed_by step.now answer) }
+fn changed(step: &StepRef<'_>, answer: &What) -> Port
+    ensures { result.0 ≡ number_of (port_changed_by step.now answer.now) }
 {
     port_changed(step, answer).unwrap_or(Port(0))
 }
@@ -75,8 +75,8 @@ impl<K: HubName> Desk<K> {
         }
     }
 
-    /// Makes and publishes one step of the seat's process, one that the hub's edition has, and gives its answer. The seat has then
-    /// seen the journal. Takes no lock.
+    /// Makes and publishes one step of the seat's process, one that the hub's edition has; `answer` then gives its answer. The seat
+    /// has then seen the journal. Takes no lock.
     ///
     /// Refused by `JournalFull`, `Gone` and `NoMemory` alone, tested in this order, with no entry made.
     pub fn step(
@@ -84,24 +84,24 @@ impl<K: HubName> Desk<K> {
         words: &Words<K>,
         seat: &mut InnerSeat,
         entry: &EntryRef<'_>,
-    ) -> Result<Event, Fault>
+    ) -> Result<(), Fault>
         requires hub { seat.old.hub ≡ K.name }
         requires pid { seat.old.pid ≡ entry.now.pid }
         requires free { IsFree seat.old }
         requires fits { is_of K.name.terms.head.edition entry.now.step ≡ true }
-        ensures rules { ServesSeat K.name self.old seat.old entry.now self.new seat.new result }
+        ensures rules { ServesSeat K.name self.old seat.old entry.now self.new seat.new (result_and result (Ok self.new.last)) }
     {
         let Some(mine) = seat.token.take() else {
             unreachable!()
         };
         words.join(&mut self.token, mine);
         match self.locked.step(entry) {
-            Ok(answer) => {
-                let port = changed(&entry.step, answer.what);
+            Ok(()) => {
+                let port = changed(&entry.step, &self.locked.answer().what);
                 let mark = mark_at(&self.locked, port);
                 words.publish(&mut self.token, usize::from(port.0), mark, entry);
                 seat.token = Some(words.split(&mut self.token));
-                Ok(answer)
+                Ok(())
             }
             Err(fault) => {
                 seat.token = Some(words.split(&mut self.token));
@@ -133,6 +133,13 @@ impl<K: HubName> Desk<K> {
         };
         seat.token = Some(words.meet(&mut self.token, mine));
         Some(answer)
+    }
+
+    /// What the last step that was made was answered.
+    pub fn answer(&self) -> &Event
+        ensures { result.now ≡ self.now.last }
+    {
+        self.locked.answer()
     }
 
     /// Whether the last step that was made ended any call.
@@ -186,5 +193,20 @@ impl<K: HubName> Desk<K> {
             of: _,
         } = self;
         locked.into_journal()
+    }
+
+    /// The journal, kept short. An `Err` is memory. Answers that wait are dropped.
+    pub(crate) fn into_short_journal(self, alloc: Global) -> Result<ShortJournal, NoMemory>
+        ensures journal { IfOk result (λ j. j ≡ record { head = K.name.terms.head; entries = self.hub.journal }) }
+        ensures legal { IsLegal K.name.terms.head self.hub.journal }
+        ensures fits { AreOf K.name.terms.head.edition self.hub.journal }
+        ensures few { steps_of self.hub.journal ≤ K.name.terms.limit }
+    {
+        let Desk {
+            locked,
+            token: _,
+            of: _,
+        } = self;
+        locked.into_short_journal(alloc)
     }
 }

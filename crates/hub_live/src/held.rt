@@ -6,8 +6,6 @@ ghost use Rattle.hub_base.specs.declared.event.What.TheVariants as what;
 ghost use Rattle.hub_live.specs.Prelude.{Send, Recv, Make, Call, Close, Exit, Cancel, Two, is_of, has_value, call, counts_at, IsIdle, state_seen, Later};
 ghost use Rattle.hub_live.specs.Prelude.{Made, Refused, Answers, AskedNothing, StandsIn, Told, EndsIn};
 
-mod ending;
-
 use crate::answer::Answer;
 use crate::desk::Desk;
 use crate::ends::{Chan, RecvPort, SendPort};
@@ -15,7 +13,8 @@ use crate::live_hub::LiveHub;
 use crate::name::HubName;
 use crate::seat::Seat;
 use crate::words::Words;
-use hub_base::{Cases, Counts, Fault, HasPid, Journal, Pid, Port, Value};
+use hub_base::{Cases, Counts, Fault, HasPid, Journal, NoMemory, Pid, Port, Value};
+use hub_core::ShortJournal;
 use std::alloc::{AllocError, Global};
 use std::marker::{Model, PhantomData};
 use std::sync::Wait;
@@ -220,6 +219,16 @@ impl<K: HubName> LiveHub<K> {
         let (words, mut desk) = self.into_parts();
         compare_all(&words, &mut desk, held);
         desk.into_journal()
+    }
+
+    /// The journal, as `finish_held` gives it, kept short: in 16 bytes for most entries, in place of those of an `Entry`. It takes
+    /// memory only where some of its entries are written out; an `Err` is memory.
+    pub fn finish_short(self, alloc: Global, held: Vec<Held<K>>) -> Result<ShortJournal, NoMemory>
+        ensures rules { IfOk result (EndsIn K.name held.items) }
+    {
+        let (words, mut desk) = self.into_parts();
+        compare_all(&words, &mut desk, held);
+        desk.into_short_journal(alloc)
     }
 }
 

@@ -1,9 +1,10 @@
 //! A hub that threads share. Steps take its lock; looks and meetings take none.
 
+ghost use Rattle.std.specs.Sync.Mutex.{mutex_guard_value};
 ghost use Rattle.std.specs.Prelude.{◌≡◌, ◌∷◌, ◌⊎◌, [], true, false, IfOk, IfErr, All, vec_len};
 ghost use Rattle.hub_base.specs.declared.event.What.TheVariants as what;
 ghost use Rattle.hub_live.specs.Prelude.{Send, Recv, Make, Call, Close, Exit, Cancel, Two, is_of, has_case, has_value, call, is_parked, counts_at, state_seen, Later};
-ghost use Rattle.hub_live.specs.Prelude.{Made, Refused, Answers, AnswersNoCall, AskedNothing, Tells, Told, EndsIn, HasEnded, IsHistory};
+ghost use Rattle.hub_live.specs.Prelude.{Made, Refused, Answers, AnswersNoCall, AskedNothing, Tells, Told, EndsIn, HasEnded, IsHistory, entry_of};
 
 use crate::answers::Pids;
 use crate::desk::Desk;
@@ -14,8 +15,8 @@ use crate::parker::Parker;
 use crate::seat::{InnerSeat, Seat};
 use crate::words::Words;
 use hub_base::{
-    Case, CaseSlice, Cases, Counts, Entry, Event, Fault, Head, Journal, MOST_PORTS, Pid, Port,
-    Step, StepRef, Value, What,
+    Case, CaseSlice, Cases, Counts, Entry, EntryRef, Event, Fault, Head, Journal, MOST_PORTS, Pid,
+    Port, Step, StepRef, Value, What,
 };
 use std::sync::{Mutex, MutexGuard, Wait};
 
@@ -46,10 +47,15 @@ pub struct LiveHub<K: HubName> {
     ghost is: { (head ≡ K.name.terms.head) × (vec_len wakers ≡ K.name.terms.head.procs) },
 }
 
-fn is_parked(what: What) -> bool
-    ensures { result ≡ is_parked what }
+/// The entry of a seat's process with this step.
+#[inline(always)]
+fn entry_of<'a>(seat: &Seat, step: StepRef<'a>) -> EntryRef<'a>
+    ensures { result ≡ entry_of seat.now step.entry }
 {
-    matches!(what, What::Parked)
+    Entry {
+        pid: seat.pid(),
+        step,
+    }
 }
 
 impl<K: HubName> LiveHub<K> {
@@ -81,51 +87,52 @@ impl<K: HubName> LiveHub<K> {
         }
     }
 
-    /// Makes a step, and waits where it parks.
-    fn ask<R: Wait>(&self, rt: &R, seat: &mut Seat, step: StepRef<'_>) -> Result<Event, Fault>
+    /// Makes a step of the seat's process, and waits where it parks. The entry is passed by reference: what is passed by value is
+    /// copied in pieces of another size than those in which it was just stored, and a processor waits for such a copy. The seat comes
+    /// last, since the entry is made of it.
+    fn ask<R: Wait>(&self, rt: &R, entry: &EntryRef<'_>, seat: &mut Seat) -> Result<Event, Fault>
         requires hub { seat.old.hub ≡ K.name }
-        requires fits { is_of K.name.terms.head.edition step ≡ true }
+        requires pid { entry.now.pid ≡ seat.old.pid }
+        requires fits { is_of K.name.terms.head.edition entry.now.step ≡ true }
         ensures later { Later seat.old seat.new }
-        ensures ok { IfOk result (λ x. Made seat.old seat.new step.entry x) }
-        ensures answer { IfOk result (λ x. AnswersNoCall seat.old.pid step.entry x) }
-        ensures err { IfErr result (λ f. Refused seat.old seat.new step.entry f) }
+        ensures ok { IfOk result (λ x. Made seat.old seat.new entry.now.step x) }
+        ensures answer { IfOk result (λ x. AnswersNoCall seat.old.pid entry.now.step x) }
+        ensures err { IfErr result (λ f. Refused seat.old seat.new entry.now.step f) }
     {
-        let entry = Entry {
-            pid: seat.pid(),
-            step,
-        };
-        let waker = &self.wakers[usize::from(entry.pid.0)];
+        let waker = &self.wakers[usize::from(seat.pid().0)];
         let mut desk = self.lock(rt, waker);
-        let answer = desk.step(&self.words, &mut seat.inner, &entry)?;
-        Ok(self.end_step(rt, desk, &mut seat.inner, answer))
+        desk.step(&self.words, &mut seat.inner, entry)?;
+        Ok(self.end_step(rt, desk, &mut seat.inner))
     }
 
-    /// Wakes the processes whose calls a step ended that was answered so, and waits where it parked.
+    /// Wakes the processes whose calls the last step ended, and waits where the step parked. The answer is copied once, from where it
+    /// was heard.
     #[inline]
     fn end_step<'a, R: Wait>(
         &'a self,
         rt: &R,
         desk: MutexGuard<'a, Desk<K>>,
         seat: &mut InnerSeat,
-        answer: Event,
     ) -> Event
         requires hub { seat.old.hub ≡ K.name }
         requires history { IsHistory K.name.terms seat.old.seen }
-        requires told { Tells K.name.terms seat.old.pid seat.old.seen answer }
+        requires told { Tells K.name.terms seat.old.pid seat.old.seen (mutex_guard_value desk).last }
         ensures ended { HasEnded K.name seat.old seat.new result }
-        ensures answer { is_parked answer.what ≡ false → result ≡ answer }
+        ensures answer { is_parked (mutex_guard_value desk.entry).last.what ≡ false → result ≡ (mutex_guard_value desk.entry).last }
     {
-        if !is_parked(answer.what) {
-            if desk.has_ended() {
-                self.let_go(desk);
-            }
-            return answer;
+        if desk.answer().what.is_parked() {
+            return self.wait_for_answer(rt, desk, seat);
         }
-        self.wake(&desk.ended());
-        self.wait_for_answer(rt, desk, seat)
+        let answer = *desk.answer();
+        if desk.has_ended() {
+            self.let_go(desk);
+        }
+        answer
     }
 
-    /// Lets the lock go, and wakes the processes whose calls the last step ended, who then find it free.
+    /// Lets the lock go, and wakes the processes whose calls the last step ended, who then find it free. Mostly it ended none, and its
+    /// caller should not pay for the list of them.
+    #[inline(never)]
     fn let_go(&self, desk: MutexGuard<'_, Desk<K>>) {
         let ended = desk.ended();
         drop(desk);
@@ -155,7 +162,8 @@ impl<K: HubName> LiveHub<K> {
         self.desk.lock(rt)
     }
 
-    /// Waits until an answer waits for the seat's process, and takes it; others may take the lock meanwhile.
+    /// Wakes the processes whose calls the step ended that parked. Then waits until an answer waits for the seat's process, and takes
+    /// it; others may take the lock meanwhile.
     #[inline(never)]
     fn wait_for_answer<'a, R: Wait>(
         &'a self,
@@ -166,6 +174,7 @@ impl<K: HubName> LiveHub<K> {
         requires { seat.old.hub ≡ K.name }
         ensures { HasEnded K.name seat.old seat.new result }
     {
+        self.wake(&desk.ended());
         let waker = &self.wakers[usize::from(seat.pid().0)];
         let mut desk = desk;
         for _ in rt.forever() {
@@ -212,7 +221,7 @@ impl<K: HubName> LiveHub<K> {
             default,
             word,
         };
-        self.ask(rt, seat, step)
+        self.ask(rt, &entry_of(seat, step), seat)
     }
 
     /// Makes a call of this one case, without default and with word 0.
@@ -228,7 +237,7 @@ impl<K: HubName> LiveHub<K> {
             default: false,
             word: 0,
         };
-        self.ask(rt, seat, step)
+        self.ask(rt, &entry_of(seat, step), seat)
     }
 
     /// Sends the value, as a call of this one case without default, and waits until it is sent. Answered
@@ -289,7 +298,7 @@ impl<K: HubName> LiveHub<K> {
         ensures answer { IfOk result (λ x. Answers seat.old.pid (Make cap) x) }
         ensures err { IfErr result (λ f. Refused seat.old seat.new (Make cap) f) }
     {
-        self.ask(rt, seat, Step::Make(cap))
+        self.ask(rt, &entry_of(seat, Step::Make(cap)), seat)
     }
 
     /// Makes a channel as `make` does, and gives it. Err: with no entry made by what refuses a make, and
@@ -322,7 +331,7 @@ impl<K: HubName> LiveHub<K> {
         ensures answer { IfOk result (λ x. Answers seat.old.pid (Close sender.now) x) }
         ensures err { IfErr result (λ f. Refused seat.old seat.new (Close sender.now) f) }
     {
-        self.ask(rt, seat, Step::Close(sender.port()))
+        self.ask(rt, &entry_of(seat, Step::Close(sender.port())), seat)
     }
 
     /// Ends the process. Answered `Done`; its later steps are refused by `Gone`. It takes the lock and
@@ -338,7 +347,7 @@ impl<K: HubName> LiveHub<K> {
         ensures answer { IfOk result (λ x. Answers seat.old.pid Exit x) }
         ensures err { IfErr result (λ f. Refused seat.old seat.new Exit f) }
     {
-        self.ask(rt, seat, Step::Exit)
+        self.ask(rt, &entry_of(seat, Step::Exit), seat)
     }
 
     /// Cancels the open call of another process: it ends with `Cancelled`, no value moves, and no port
@@ -355,7 +364,7 @@ impl<K: HubName> LiveHub<K> {
         ensures answer { IfOk result (λ x. Answers seat.old.pid (Cancel pid) x) }
         ensures err { IfErr result (λ f. Refused seat.old seat.new (Cancel pid) f) }
     {
-        self.ask(rt, seat, Step::Cancel(pid))
+        self.ask(rt, &entry_of(seat, Step::Cancel(pid)), seat)
     }
 
     /// The counts of a port in the journal that the seat has then seen: by at most one load, with no

@@ -5,16 +5,16 @@
 //! no answer waiting, and an answer that waits is its process's reply. That the hub is what its journal
 //! leads to is kept by the hub's own type.
 
-ghost use Rattle.std.specs.Prelude.{◌≡◌, ◌<◌, ◌↔◌, IsTrue, true, length, slice_get, IfSome, IfNone};
+ghost use Rattle.std.specs.Prelude.{◌≡◌, ◌<◌, ◌↔◌, IsTrue, Ok, true, length, slice_get, IfOk, IfSome, IfNone};
+ghost use Rattle.std.specs.Result.{result_and};
 ghost use Rattle.hub_core.specs.Looks.{look_at};
 ghost use Rattle.hub_live.specs.Locked.{none_waits};
 ghost use Rattle.hub_live.specs.Prelude.{AreOf, is_of, refusal, IsLegal, state_of, answer_for, IsReplyTo, ServesStep, without_answer};
 
-mod ending;
-
 use crate::answers::{Answers, Pids};
-use hub_base::{Entry, EntryRef, Event, Fault, Head, Journal, Look, Pid, Port};
-use hub_core::{Hub, ShortHub};
+use hub_base::{Entry, EntryRef, Event, Fault, Head, Journal, Look, NoMemory, Pid, Port};
+use hub_core::{Hub, ShortHub, ShortJournal};
+use std::alloc::Global;
 use std::marker::Model;
 
 /// A hub, and for each process an answer that may wait to be picked up.
@@ -22,7 +22,7 @@ use std::marker::Model;
 pub struct Locked {
     /// The hub, whose journal is kept short until it is asked for.
     hub: ShortHub,
-    /// The answers that wait, and whose calls the last step that was made ended.
+    /// The answers that wait, what the last step that was made was answered, and whose calls it ended.
     answers: Answers,
 }
 
@@ -32,7 +32,7 @@ impl Model for Locked {
     ghost Value = { LockedView };
 
     ghost view = { λ l.
-        record { hub = l.hub.memory.hub; answers = l.answers.waiting; ended = l.answers.ended } };
+        record { hub = l.hub.memory.hub; answers = l.answers.waiting; last = l.answers.last; ended = l.answers.ended } };
 
     ghost invariant = { λ l. IsLawful l.hub.memory.hub l.answers.waiting };
 }
@@ -51,22 +51,27 @@ impl Locked {
         }
     }
 
-    /// Makes a step that the hub's edition has, and gives its answer, the first of its events. What waited for the caller is
-    /// dropped. Each event that follows, which ends a call, waits for its process, also a `Stalled`
-    /// that follows the caller's own `Parked`.
+    /// Makes a step that the hub's edition has. `answer` then gives its answer, the first of its events, until the next step is
+    /// made. What waited for the caller is dropped. Each event that follows, which ends a call, waits for its process, also a
+    /// `Stalled` that follows the caller's own `Parked`.
     ///
     /// Refused as the hub refuses it, and then nothing changes: an exit never by `JournalFull` or
     /// `NoMemory`.
-    pub fn step(&mut self, entry: &EntryRef<'_>) -> Result<Event, Fault>
+    pub fn step(&mut self, entry: &EntryRef<'_>) -> Result<(), Fault>
         requires fits { is_of self.old.hub.terms.head.edition entry.now.step ≡ true }
-        ensures rules { ServesStep self.old entry.now self.new result }
+        ensures rules { ServesStep self.old entry.now self.new (result_and result (Ok self.new.last)) }
     {
         self.answers.begin();
         self.hub.step_heard(entry, &mut self.answers)?;
-        match self.answers.own() {
-            Some(answer) => Ok(*answer),
-            None => unreachable!(),
-        }
+        Ok(())
+    }
+
+    /// What the last step that was made here was answered; before the first here, that process 0 is done.
+    #[inline(always)]
+    pub fn answer(&self) -> &Event
+        ensures { result.now ≡ self.now.last }
+    {
+        self.answers.last()
     }
 
     /// Why a step of this process would be refused now: `NoProcess`, `Gone`, `Busy`, or nothing.
@@ -141,5 +146,16 @@ impl Locked {
     {
         let Locked { hub, answers: _ } = self;
         hub.into_journal()
+    }
+
+    /// The journal, kept short. It takes memory only where some of its entries are written out; an `Err` is memory. Answers that
+    /// wait are dropped.
+    pub fn into_short_journal(self, alloc: Global) -> Result<ShortJournal, NoMemory>
+        ensures journal { IfOk result (λ j. j ≡ record { head = self.hub.terms.head; entries = self.hub.journal }) }
+        ensures legal { IsLegal self.hub.terms.head self.hub.journal }
+        ensures fits { AreOf self.hub.terms.head.edition self.hub.journal }
+    {
+        let Locked { hub, answers: _ } = self;
+        hub.into_short_journal(alloc)
     }
 }

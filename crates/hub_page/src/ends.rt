@@ -129,7 +129,7 @@ fn put_told(
     ensures { OnOk result (out.new.items ≡ out.old.items
         ++ told_words (entries_of known.now) (told_of known.now) place told.now) }
 {
-    if matches!(told.event.what, What::Parked) {
+    if told.event.what.is_parked() {
         return Ok(());
     }
     put_number(out, b";", place.saturating_sub(told.asked).into())?;

@@ -48,7 +48,7 @@ fn is_end_of(known: &Known<'_>, told: &Told) -> bool
     requires { IsKnown known.now }
     ensures { result ≡ is_end_of known.now.window (entries_of known.now) (told_of known.now) told.now }
 {
-    matches!(told.event.what, What::Stalled)
+    told.event.what.is_stalled()
         || known.window.touches(told.asked, told.by)
         || has_other(known, told.asked as usize, told.event.what)
 }

@@ -4,7 +4,6 @@ ghost use Rattle.std.specs.Prelude.{◌≡◌, IfOk, filter};
 ghost use Rattle.hub_picture.specs.Drawings.{stalls_in};
 
 use crate::Window;
-use hub_base::What;
 use hub_story::Told;
 use std::alloc::{AllocError, Global};
 
@@ -12,7 +11,7 @@ use std::alloc::{AllocError, Global};
 fn stalls_in(window: Window, told: &Told) -> bool
     ensures { result ≡ stalls_in window told.now }
 {
-    matches!(told.event.what, What::Stalled) && window.has(told.by)
+    told.event.what.is_stalled() && window.has(told.by)
 }
 
 /// Whoever was stalled in the window, by arrival.

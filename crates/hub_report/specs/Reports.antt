@@ -1,11 +1,10 @@
 -- What the report of a journal tells: of each port what it carried, from the state that the journal
 -- leads to; and how many calls stalled and how many faults were told, from its events.
-use Rattle.std.specs.Prelude.{◌≡◌, ℕ, ◌-◌, Bool, true, false, List, length, map, filter}
+use Rattle.std.specs.Prelude.{◌≡◌, ℕ, ◌-◌, Bool, List, length, map, filter}
 use Rattle.std.specs.List.{sum_by}
 use Rattle.hub_base.specs.declared.head.Head.{Head}
 use Rattle.hub_base.specs.Entry.{Entry}
 use Rattle.hub_base.specs.declared.event.What.{What}
-use Rattle.hub_base.specs.declared.event.What.TheVariants as what
 use Rattle.hub_base.specs.declared.event.Event.{Event}
 use Rattle.hub_base.specs.Journal.{JournalView}
 use Rattle.hub_base.specs.State.{Channel}
@@ -14,6 +13,7 @@ use Rattle.hub_base.specs.declared.value.Value.{Value}
 use Rattle.std.specs.Option.{option_map_or}
 use Rattle.hub_base.specs.Value.{content, number_in}
 use Rattle.hub_base.specs.Values.{is_fault}
+pub use Rattle.hub_base.specs.Values.{is_stalled}
 use Rattle.hub_laws.specs.Received.{received_from}
 use Rattle.hub_report.specs.declared.report.PortReport.{PortReport}
 use Rattle.hub_report.specs.declared.report.Report.{Report}
@@ -38,17 +38,6 @@ told_of c =
 -- the ports of a journal with this head, in order of number
 abbrev pub ports_told : Head → List Entry → List PortReport
 ports_told h journal = map told_of (state h journal).channels
-
--- a call ended because everyone waited
-abbrev pub is_stalled : What → Bool
-is_stalled what.Stalled = true
-is_stalled (what.Made p) = false
-is_stalled (what.Fired i o) = false
-is_stalled what.Default = false
-is_stalled what.Done = false
-is_stalled what.Parked = false
-is_stalled (what.Fault f) = false
-is_stalled what.Cancelled = false
 
 -- how many of these events tell such
 abbrev pub how_many : (What → Bool) → List Event → ℕ

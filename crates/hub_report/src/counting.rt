@@ -48,7 +48,7 @@ pub(crate) fn tell(events: &[Event]) -> Told
     };
     for event in events {
         told.got += u128::from(number_told(event));
-        told.stalled += u32::from(matches!(event.what, What::Stalled));
+        told.stalled += u32::from(event.what.is_stalled());
         told.faults += u32::from(matches!(event.what, What::Fault(_)));
     }
     told
@@ -59,5 +59,5 @@ pub(crate) fn port_named(step: &StepRef<'_>, events: &[Event]) -> Option<Port>
     ensures { result ≡ port_touched step.now events.now }
 {
     let answer = events.first()?;
-    port_touched(step, answer.what)
+    port_touched(step, &answer.what)
 }

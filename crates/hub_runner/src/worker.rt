@@ -3,8 +3,8 @@
 ghost use Rattle.std.specs.Prelude.{◌≡◌, ◌<◌, ◌-◌, ◌^◌, ◌+◌, ◌&&◌, ◌++◌, ◌∷◌, [], List, ℕ, Some, true, IfOk, IfErr, OnOk};
 ghost use Rattle.std.specs.List.{list_all};
 ghost use Rattle.hub_base.specs.declared.entry.Step.TheVariants.{Exit};
+ghost use Rattle.hub_base.specs.Values.{is_stalled};
 ghost use Rattle.hub_live.specs.Calls.{Later, Refused};
-ghost use Rattle.hub_report.specs.Reports.{is_stalled};
 ghost use Rattle.hub_scenario.specs.declared.script.ScriptStep.{ScriptStep};
 ghost use Rattle.hub_scenario.specs.ChoiceWords.{choice_word};
 ghost use Rattle.hub_scenario.specs.Steps.{has_step};
@@ -18,12 +18,6 @@ use hub_base::{Event, Fault, Outcome, What, copy_cases};
 use hub_live::{Chan, Held, HubName, LiveHub};
 use hub_scenario::{ChoiceWords, ScriptStep};
 use std::sync::Wait;
-
-fn is_stalled(what: What) -> bool
-    ensures { result ≡ is_stalled what }
-{
-    matches!(what, What::Stalled)
-}
 
 fn gets(what: What) -> bool
     ensures { result ≡ gets what }
@@ -102,6 +96,13 @@ fn ask<K: HubName, R: Wait>(
     }
 }
 
+/// Whether a script ends with this answer: everyone waited.
+fn ends_script(what: &What) -> bool
+    ensures { result ≡ is_stalled what.now }
+{
+    what.is_stalled()
+}
+
 /// Makes the entries of one step of a script, of a range until it gets no value, and passes the gate
 /// before each. Whether the script goes on: not after `Stalled`.
 fn take_step<K: HubName, R: Wait, G: Gate>(
@@ -124,7 +125,7 @@ fn take_step<K: HubName, R: Wait, G: Gate>(
     for _ in rt.forever() {
         passes.pass();
         let event = ask(rt, hub, seat, turn)?;
-        if is_stalled(event.what) {
+        if ends_script(&event.what) {
             return Ok(false);
         }
         if !repeats(turn.step, event.what) {

@@ -93,9 +93,9 @@ fn step_endless(
         return;
     }
     match hub.step(entry, out) {
-        Ok(answer) => {
+        Ok(()) => {
             hold(out, hands_out);
-            tell_made(&answer, bits_ended_in_all(hub), out.is_some(), told);
+            tell_made(hub.answer(), bits_ended_in_all(hub), out.is_some(), told);
         }
         Err(fault) => tell_refused(fault, out.is_some(), told),
     }
@@ -116,7 +116,7 @@ impl Opened {
     {
         match self {
             Opened::Limited(hub) => match hub.step(entry) {
-                Ok(answer) => tell_made(&answer, bits_ended(hub), out.is_some(), told),
+                Ok(()) => tell_made(hub.answer(), bits_ended(hub), out.is_some(), told),
                 Err(fault) => tell_refused(fault, out.is_some(), told),
             },
             Opened::Endless(hub) => step_endless(hub, out, hands_out, entry, told),

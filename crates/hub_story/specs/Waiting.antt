@@ -1,9 +1,8 @@
 -- Who waits: at the end of a journal, and where a step stalls.
-use Rattle.std.specs.Prelude.{ℕ, ◌==◌, ◌&&◌, Bool, true, false, not, List, filter, is_some}
-use Rattle.hub_base.specs.declared.event.What.{What}
-use Rattle.hub_base.specs.declared.event.What.TheVariants as what
+use Rattle.std.specs.Prelude.{ℕ, ◌==◌, ◌&&◌, Bool, not, List, filter, is_some}
 use Rattle.hub_base.specs.Entry.{Entry}
 use Rattle.hub_base.specs.State.{OpenCall}
+pub use Rattle.hub_base.specs.Values.{is_stalled}
 use Rattle.hub_laws.specs.Replies.{is_parked}
 use Rattle.hub_story.specs.declared.told.Told.{Told}
 use Rattle.hub_story.specs.Told.{end_of}
@@ -17,11 +16,6 @@ still_waiting all =
 -- the open call that is told of
 abbrev pub open_call : List Entry → Told → OpenCall
 open_call es t = record { pid = t.event.pid; cases = cases_at es t.asked }
-
--- a call ended because everyone waited
-abbrev pub is_stalled : What → Bool
-is_stalled what.Stalled = true
-is_stalled w = false
 
 -- this one did, after the entry at this place
 abbrev pub is_stalled_by : ℕ → Told → Bool

@@ -6,7 +6,6 @@ ghost use Rattle.hub_story.specs.Ends.{AreEndPlaces, AreEnds, waits_by_place, wi
 ghost use Rattle.hub_story.specs.Waiting.{is_stalled_by, stalled_by};
 
 use crate::Told;
-use hub_base::What;
 use std::alloc::{AllocError, Global};
 
 /// Takes in the next event. The first that is not `Parked` ends its entry.
@@ -14,7 +13,7 @@ fn note_end(ends: &mut Vec<Option<Told>>, told: &Told)
     ensures { ends.new.items ≡ with_end ends.old.items told.now }
 {
     let place = told.asked as usize;
-    if !matches!(told.event.what, What::Parked) && place < ends.len() && ends[place].is_none() {
+    if !told.event.what.is_parked() && place < ends.len() && ends[place].is_none() {
         ends[place] = Some(*told);
     }
 }
@@ -39,7 +38,7 @@ fn note_end_place(ends: &mut Vec<Option<u32>>, place: u32, told: &Told)
     ensures { ends.new.items ≡ with_end_place ends.old.items place told.now }
 {
     let asked = told.asked as usize;
-    if !matches!(told.event.what, What::Parked) && asked < ends.len() && ends[asked].is_none() {
+    if !told.event.what.is_parked() && asked < ends.len() && ends[asked].is_none() {
         ends[asked] = Some(place);
     }
 }
@@ -67,7 +66,7 @@ pub(crate) fn end_places_of(
 fn waits(ends: &[Option<u32>], told: &Told) -> bool
     ensures { result ≡ waits_by_place ends.now told.now }
 {
-    matches!(told.event.what, What::Parked)
+    told.event.what.is_parked()
         && match ends.get(told.asked as usize) {
             Some(end) => end.is_none(),
             None => true,
@@ -95,7 +94,7 @@ pub(crate) fn waiting_of(
 fn is_stalled_by(told: &Told, place: u32) -> bool
     ensures { result ≡ is_stalled_by place told.now }
 {
-    matches!(told.event.what, What::Stalled) && told.by == place
+    told.event.what.is_stalled() && told.by == place
 }
 
 /// The calls that ended as everyone waited after the entry at this place, by arrival.

@@ -16,7 +16,7 @@ use crate::explained::{Explained, put_painted_line};
 use crate::last_moves::LastMoves;
 use crate::packed_text::PackedText;
 use crate::waiters::put_waiters;
-use hub_base::{Case, NoMemory, What};
+use hub_base::{Case, NoMemory};
 use hub_story::Told;
 use std::alloc::{AllocError, Global};
 
@@ -46,7 +46,7 @@ pub fn stalled_of(alloc: Global, came: &[Told]) -> Result<Vec<Told>, AllocError>
 {
     let mut stalled = Vec::new(alloc);
     for told in came {
-        if matches!(told.event.what, What::Stalled) {
+        if told.event.what.is_stalled() {
             stalled.push(*told)?;
         }
     }

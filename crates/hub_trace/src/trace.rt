@@ -91,7 +91,7 @@ fn put_slice<'a>(
 fn put_ended(out: &mut Vec<u8>, told: &Told, entry: &EntryRef<'_>) -> Result<(), NoMemory>
     ensures { OnOk result (out.new.items ≡ out.old.items ++ ended_text told.now entry.now) }
 {
-    if matches!(told.event.what, What::Parked) {
+    if told.event.what.is_parked() {
         return Ok(());
     }
     put_slice(out, kind_of(told), number_of(told.by), told, entry)

@@ -3,13 +3,13 @@
 ghost use Rattle.std.specs.Prelude.{◌≡◌, ◌↔◌, true, IfOk, IsNone, IsTrue};
 ghost use Rattle.hub_trials.specs.Answers.{is_answer_to, answers_to};
 
-use hub_base::{Counts, Event, Pid, What};
+use hub_base::{Counts, Event, Pid};
 use std::alloc::{AllocError, Global};
 
 fn is_answer_to(pid: Pid, event: &Event) -> bool
     ensures { result ≡ is_answer_to pid event.now }
 {
-    event.pid == pid && !matches!(event.what, What::Parked)
+    event.pid == pid && !event.what.is_parked()
 }
 
 /// What the process is told among these events, but for `Parked`, in order.

@@ -47,7 +47,10 @@ fn ask(
 ) -> (Result<Event, Fault>, Option<usize>) {
     assert!(rt; entry.fits(hub.head().edition));
     let mut out = None;
-    let answer = hub.step(&entry.by_slice(), &mut out);
+    let answer = match hub.step(&entry.by_slice(), &mut out) {
+        Ok(()) => Ok(*hub.answer()),
+        Err(fault) => Err(fault),
+    };
     (answer, len_of(out))
 }
 

@@ -30,7 +30,8 @@ enum Row {
 /// Makes a step, which the hub's edition must have.
 fn make_step(rt: &impl Abort, locked: &mut Locked, entry: Entry) -> Result<Event, Fault> {
     assert!(rt; entry.fits(locked.head().edition));
-    locked.step(&entry.by_slice())
+    locked.step(&entry.by_slice())?;
+    Ok(*locked.answer())
 }
 
 fn follow_row(rt: &impl Abort, locked: &mut Locked, row: Row, place: (&str, usize)) {

@@ -3,12 +3,12 @@ use Rattle.hub_runner.specs.Working.{asked_of}
 use Rattle.hub_runner.proofs.Workers.{leads_end, leads_again, left_stalled, left_done, still_onward, still_later, stopped_in_step}
 use Rattle.hub_runner.proofs.worker.take_step.Goals as goal
 
-pub returns-then-is_stalled-clause-ok : goal.returns-then-is_stalled-clause-ok
-returns-then-is_stalled-clause-ok g c = λ words rest j chosen.
+pub returns-then-ends_script-clause-ok : goal.returns-then-ends_script-clause-ok
+returns-then-ends_script-clause-ok g c = λ words rest j chosen.
     leads_end (asked_of c.args.seat.now) (asked_of c.loop.seat) (asked_of c.ask.new.seat) words c.args.turn.step.now rest j c.args.turn.word
     c.in_ok-event.event false
     (c.loop.invariant.3 words rest j chosen) c.in_ok-event.ensures.ok chosen
-    (left_stalled c.args.turn.step.now rest c.in_ok-event.event (sym c.is_stalled.ensures ∙ c.if-is_stalled.true))
+    (left_stalled c.args.turn.step.now rest c.in_ok-event.event (sym c.ends_script.ensures ∙ c.if-ends_script.true))
 
 pub returns-then-not-repeats-clause-ok : goal.returns-then-not-repeats-clause-ok
 returns-then-not-repeats-clause-ok g c = λ words rest j chosen.
@@ -16,10 +16,10 @@ returns-then-not-repeats-clause-ok g c = λ words rest j chosen.
     c.in_ok-event.event true
     (c.loop.invariant.3 words rest j chosen) c.in_ok-event.ensures.ok chosen
     (left_done c.args.turn.step.now rest c.in_ok-event.event
-    (sym c.is_stalled.ensures ∙ c.if-is_stalled.false) (sym c.repeats.ensures ∙ c.if-not-repeats.true))
+    (sym c.ends_script.ensures ∙ c.if-ends_script.false) (sym c.repeats.ensures ∙ c.if-not-repeats.true))
 
-pub returns-then-is_stalled-clause-later : goal.returns-then-is_stalled-clause-later
-returns-then-is_stalled-clause-later g c = still_later c.args.seat.now c.loop.seat c.ask.new.seat c.loop.invariant.2 c.ask.ensures.later
+pub returns-then-ends_script-clause-later : goal.returns-then-ends_script-clause-later
+returns-then-ends_script-clause-later g c = still_later c.args.seat.now c.loop.seat c.ask.new.seat c.loop.invariant.2 c.ask.ensures.later
 
 pub returns-then-not-repeats-clause-later : goal.returns-then-not-repeats-clause-later
 returns-then-not-repeats-clause-later g c = still_later c.args.seat.now c.loop.seat c.ask.new.seat c.loop.invariant.2 c.ask.ensures.later
@@ -35,7 +35,7 @@ loop-preserved g c = (
   λ words rest j chosen.
       leads_again (asked_of c.args.seat.now) (asked_of c.loop.seat) (asked_of c.ask.new.seat) words c.args.turn.step.now rest j c.args.turn.word
       c.in_ok-event.event
-      (c.loop.invariant.3 words rest j chosen) c.in_ok-event.ensures.ok chosen (sym c.is_stalled.ensures ∙ c.if-is_stalled.false)
+      (c.loop.invariant.3 words rest j chosen) c.in_ok-event.ensures.ok chosen (sym c.ends_script.ensures ∙ c.if-ends_script.false)
       (sym c.repeats.ensures ∙ c.if-not-repeats.false),
 )
 

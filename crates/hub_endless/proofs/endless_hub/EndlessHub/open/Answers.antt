@@ -13,7 +13,7 @@ invariant_of-result c =
     record {
       explained = (
         First [],
-        opened (endless_view c.in_ok-recorder.recorder c.new.result.waiting c.new.result.ended) c.in_ok-recorder.ensures.ok
+        opened (endless_view c.in_ok-recorder.recorder c.new.result.waiting c.new.result.last c.new.result.ended) c.in_ok-recorder.ensures.ok
             (ap (λ (a : AnswersView). a.waiting) c.new.ensures),
       );
       places = ap (λ (a : AnswersView). length a.waiting) c.new.ensures ∙ length-replicate {A = Option Event} MOST_PROCS None;
@@ -21,5 +21,5 @@ invariant_of-result c =
 
 pub returns-clause-ok : goal.returns-clause-ok
 returns-clause-ok c =
-    opened (endless_view c.in_ok-recorder.recorder c.new.result.waiting c.new.result.ended) c.in_ok-recorder.ensures.ok
+    opened (endless_view c.in_ok-recorder.recorder c.new.result.waiting c.new.result.last c.new.result.ended) c.in_ok-recorder.ensures.ok
     (ap (λ (a : AnswersView). a.waiting) c.new.ensures)

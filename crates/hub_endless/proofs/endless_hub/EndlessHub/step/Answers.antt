@@ -1,39 +1,29 @@
-use Rattle.std.proofs.Common.{◌≡◌, ◌∙◌, List, ap, sym}
-use Rattle.std.specs.Option.{option_map}
-use Rattle.hub_base.specs.declared.event.Event.{Event}
+use Rattle.std.proofs.Common.{◌≡◌, ◌∙◌, ap}
 use Rattle.hub_cut.specs.Recorder.{begins, with_next}
 use Rattle.hub_live.specs.Answers.{AnswersView, Keeps, begun, hears_all}
-use Rattle.hub_live.proofs.Hearing.{answered, kept}
+use Rattle.hub_live.proofs.Hearing.{kept}
 use Rattle.hub_endless.specs.Endless.{EndlessView, ServesMade, endless_view}
 use Rattle.hub_endless.proofs.Serving.{serves_made, told_one}
 use Rattle.hub_endless.proofs.endless_hub.EndlessHub.step.Goals as goal
-use Rattle.hub_endless.proofs.endless_hub.EndlessHub.step.Goals.{After-result-1}
+use Rattle.hub_endless.proofs.endless_hub.EndlessHub.step.Goals.{In_ok-step_heard}
 
-pub unreachable-requires : goal.unreachable-requires
-unreachable-requires c =
-    let chapters = c.self.invariant.explained.0 in
-    let made = c.in_ok-step_heard.ensures.ok in
-    told_one chapters c.self.inside.recorder c.args.entry.now c.step_heard.new.self made.told
-    (made.holds.goes_on chapters c.self.invariant.explained.1.records)
-    (answered c.self.inside.answers c.step_heard.new.events made.told
-    (made.heard ∙ ap (λ (k : AnswersView). hears_all k made.told) c.begin.ensures) (sym c.own.ensures ∙ ap (option_map (λ x. x.now)) c.in-None.is))
+abbrev before : In_ok-step_heard → EndlessView
+before c = endless_view c.self.inside.recorder c.self.inside.answers.waiting c.self.inside.answers.last c.self.inside.answers.ended
 
-abbrev before : After-result-1 → EndlessView
-before c = endless_view c.self.inside.recorder c.self.inside.answers.waiting c.self.inside.answers.ended
+abbrev after : In_ok-step_heard → EndlessView
+after c = endless_view c.step_heard.new.self c.step_heard.new.events.waiting c.step_heard.new.events.last c.step_heard.new.events.ended
 
-abbrev after : After-result-1 → EndlessView
-after c = endless_view c.step_heard.new.self c.step_heard.new.events.waiting c.step_heard.new.events.ended
-
-keeps : (c : After-result-1) → Keeps c.self.inside.answers.waiting c.in_ok-step_heard.ensures.ok.told c.step_heard.new.events c.in-Some.answer.now
+keeps : (c : In_ok-step_heard) → Keeps c.self.inside.answers.waiting c.in_ok-step_heard.ensures.ok.told c.step_heard.new.events c.step_heard.new.events.last
 keeps c =
     let made = c.in_ok-step_heard.ensures.ok in
-    kept c.self.inside.answers c.step_heard.new.events made.told c.in-Some.answer.now
-    (made.heard ∙ ap (λ (k : AnswersView). hears_all k made.told) c.begin.ensures) (sym c.own.ensures ∙ ap (option_map (λ x. x.now)) c.in-Some.is)
+    let (chapters, so) = c.self.invariant.explained in
+    kept c.self.inside.answers c.step_heard.new.events made.told (made.heard ∙ ap (λ (k : AnswersView). hears_all k made.told) c.begin.ensures)
+    (told_one chapters c.self.inside.recorder c.args.entry.now c.step_heard.new.self made.told (made.holds.goes_on chapters so.records))
 
-serves : (c : After-result-1) → ServesMade (before c) c.args.entry.now (after c) c.in-Some.answer.now
+serves : (c : In_ok-step_heard) → ServesMade (before c) c.args.entry.now (after c) (after c).last
 serves c =
-    serves_made (before c) c.args.entry.now c.step_heard.new.self c.in_ok-step_heard.ensures.ok.told c.step_heard.new.events c.in-Some.answer.now
-    c.self.invariant c.in_ok-step_heard.ensures.ok.holds (keeps c)
+    serves_made (before c) c.args.entry.now c.step_heard.new.self c.in_ok-step_heard.ensures.ok.told c.step_heard.new.events c.self.invariant
+    c.in_ok-step_heard.ensures.ok.holds (keeps c)
 
 pub invariant_of-self-2 : goal.invariant_of-self-2
 invariant_of-self-2 c =

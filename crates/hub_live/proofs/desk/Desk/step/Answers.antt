@@ -1,5 +1,6 @@
 use Rattle.std.proofs.Common.{◌∙◌, sym, ap, refl, subst, rules}
-use Rattle.hub_live.specs.Prelude.{IsHistory, Terms, LockedView, Met, Refuses, Serves}
+use Rattle.hub_base.specs.declared.event.Event.{Event}
+use Rattle.hub_live.specs.Prelude.{IsHistory, Terms, LockedView, Met, Refuses, Serves, number_of, port_changed_by}
 use Rattle.hub_live.proofs.Desks.{hub_steps, next_served, Stepped, stepped, desk_single, desk_seen, reply_there, refusal_seen}
 use Rattle.hub_live.proofs.Laters.{met, IsSeatOf, seat_opened, HasSeen, has_seen, asked_nothing}
 use Rattle.hub_live.proofs.desk.Desk.step.Given.{Over}
@@ -14,14 +15,14 @@ mark_at-mark-requires g c =
 pub publish-requires-clause-next : goal.publish-requires-clause-next
 publish-requires-clause-next g c =
     let mine = seat_opened c.requires.hub c.seat.invariant c.seat.view_is (sym c.take.ensures.value ∙ c.in-Some.is) in
-    next_served c.self.invariant mine c.requires.pid c.join.ensures.sees c.in-Ok.ensures.rules.ok c.changed-port.ensures c.from.ensures
-    c.mark_at-mark.ensures
+    let changes = c.changed-port.ensures ∙ ap (λ (x : Event). number_of (port_changed_by c.args.entry.now.step x.what)) c.answer.ensures in
+    next_served c.self.invariant mine c.requires.pid c.join.ensures.sees c.in-Ok.ensures.rules.ok changes c.from.ensures c.mark_at-mark.ensures
 
 stepper : (g : Over) (c : Joined-seat g) → IsSeatOf g.K.HubName.name c.args.seat.now c.seat.inside.pid c.in-Some.mine
 stepper g c = seat_opened c.requires.hub c.seat.invariant c.seat.view_is (sym c.take.ensures.value ∙ c.in-Some.is)
 
 served : (g : Over) (c : Joined-seat g)
-    → Serves c.self.inside.locked c.args.entry.now c.step.new.self c.in-Ok.answer
+    → Serves c.self.inside.locked c.args.entry.now c.step.new.self c.step.new.self.last
 served g c = c.in-Ok.ensures.rules.ok
 
 made : (g : Over) (c : Joined-seat g)
@@ -46,7 +47,7 @@ returns-in-Ok g c =
         seen = m.seen;
         history = m.history;
         begins = m.begins;
-        ok = subst (λ (l : LockedView). Serves l c.args.entry.now c.step.new.self c.in-Ok.answer) c.self.view_is (served g c);
+        ok = subst (λ (l : LockedView). Serves l c.args.entry.now c.step.new.self c.step.new.self.last) c.self.view_is (served g c);
         own = m.own;
         told = λ clear. reply_there m.desk.hub.terms refl (sym m.seen) (c.in-Ok.ensures.rules.reply clear);
         refused = tt;

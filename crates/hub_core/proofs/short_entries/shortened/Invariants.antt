@@ -1,5 +1,5 @@
 use Rattle.std.proofs.Common.{◌≡◌, take}
-use Rattle.hub_core.proofs.short_entries.kept.shortened.Given as goal
+use Rattle.hub_core.proofs.short_entries.shortened.Given as goal
 
 -- the entries so far
 abbrev pub invariant-loop-entry : goal.invariant-loop-entry

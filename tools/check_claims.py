@@ -198,6 +198,9 @@ def with_links(crate, text):
     places = types | {name: call.path for name, call in public_calls(crate).items()}
 
     def link(cell):
+        # a span of calls names the first and the last alone
+        if '` to `' in cell:
+            return cell
         shared = []
         for name in TICKED.findall(LINK.sub(r'\1', cell)):
             if shared and shared[-1][1] == places.get(name):

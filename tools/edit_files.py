@@ -107,7 +107,15 @@ def function_at(file, before):
     words = re.sub(r'<(?:[^<>]|<[^<>]*>)*>', '', block[len('impl'):]).split()
     if 'for' in words:
         return '::'.join(module + ['*'])
-    return words[0] + '::' + name
+    return words[0] + argument_of(block) + '::' + name
+
+
+def argument_of(block):
+    """What a check names behind the type of a block of methods: the argument that it is for, if it is not for any."""
+    found = re.match(r'impl(<.*?>)? \w+<(\w+)> \{', block)
+    if not found or re.search(r'\b%s\b' % found.group(2), found.group(1) or ''):
+        return ''
+    return '+' + found.group(2)
 
 
 def copy_of(crate, room, texts):

@@ -11,7 +11,7 @@ sys.dont_write_bytecode = True
 import edit_contracts
 import edit_verdicts as verdicts
 import edits_tried
-from edit_files import Batch, batches_of
+from edit_files import Batch, batches_of, function_at
 
 # Each with the function that it speaks of, and the kind that the best of its goals is.
 PRINTED = {
@@ -252,6 +252,8 @@ def tests():
     yield 'edits of one function are apart', [len(it.edits) for it in batches] == [2, 1]
     yield 'or read together', [len(it.edits) for it in batches_of([Change('one'), Change('one')], apart=False)] == [2]
     yield 'an empty batch', Batch().texts == {}
+    yield 'a method for any argument', function_at('src/hub.rt', 'impl<F: Form> HubOf<F> {\n    pub fn len(') == 'HubOf::len'
+    yield 'a method for one argument', function_at('src/hub.rt', 'impl HubOf<Whole> {\n    pub fn entries(') == 'HubOf+Whole::entries'
     yield 'a record that is read back', tomllib.loads(edits_tried.part('one', RECORDED))['one'] == RECORDED
     yield 'edits beside others', edits_tried.beside(['1a', '2b', 'gone'], {'3c': True, '1a': False}, {'1a', '2b', '3c'}) == {'2b', '3c'}
     yield from tests_of_contracts()

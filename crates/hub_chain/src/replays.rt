@@ -1,13 +1,13 @@
 //! A chapter's entries, made again.
 
-ghost use Rattle.std.specs.Prelude.{◌≡◌, IfOk, IfErr};
+ghost use Rattle.std.specs.Prelude.{IfOk, IfErr};
 ghost use Rattle.hub_chain.specs.Chains.{IsRead, IsHubOf, MakesText};
 ghost use Rattle.hub_chain.specs.Faults.{IsNotLegal, IsRefused};
 
 use crate::ChainFault;
 use crate::fault::refused_at;
 use hub_base::{Case, Events, MOST_STEPS};
-use hub_core::{Hub, ShortHub, ShortJournal, read_short_journal};
+use hub_core::{ShortHub, ShortJournal, read_short_journal};
 use std::alloc::Global;
 
 /// The hub that has made the journal's steps.
@@ -17,10 +17,9 @@ pub(crate) fn hub_of(alloc: Global, journal: &ShortJournal) -> Result<ShortHub, 
     ensures err { IfErr result (IsRefused journal.now) }
 {
     let head = journal.head();
-    let Ok(opened) = Hub::open(alloc, head.procs, MOST_STEPS, head.edition) else {
+    let Ok(mut hub) = ShortHub::open(alloc, head.procs, MOST_STEPS, head.edition) else {
         return Err(ChainFault::NoMemory);
     };
-    let mut hub = opened.shortened();
     let mut events = Events::new();
     let mut one = Case::default();
     for place in 0..journal.entries().len() {

@@ -1,5 +1,7 @@
 -- An admitted step before the stall rule: its fault, or what it does; and the stall rule behind it.
-use Rattle.std.proofs.Common.{◌≡◌, ◌∙◌, ◌∷◌, [], ℕ, List, Option, Some, None, Result, Ok, Err, ap, sym, subst, refl, cond, true, false}
+use Rattle.std.proofs.Common.{◌≡◌, ◌∙◌, ◌∷◌, ◌++◌, ◌+◌, ◌==◌, ◌<◌, [], ℕ, List, Option, Some, None, Result, Ok, Err, Bool, true, false}
+use Rattle.std.proofs.Common.{ap, arith, sym, subst, refl, cond, length, nat_le, nat_lt}
+use Rattle.std.proofs.lemmas.Grind.{common_steps}
 use Rattle.std.specs.Prelude.{OnOk, OnErr}
 use Rattle.hub_base.specs.declared.value.Pid.{Pid}
 use Rattle.hub_base.specs.Entry.{Entry, Step}
@@ -7,28 +9,56 @@ use Rattle.hub_base.specs.declared.entry.Step.TheVariants.{Make, Call, Close, Ex
 use Rattle.hub_base.specs.declared.event.Event.{Event}
 use Rattle.hub_base.specs.declared.event.What.TheVariants as what
 use Rattle.hub_base.specs.declared.fault.Fault.{Fault}
+use Rattle.hub_base.specs.declared.fault.Fault.TheVariants as fault
+use Rattle.hub_base.specs.declared.head.Edition.{Edition}
+use Rattle.hub_base.specs.declared.limits.TheConstants.{MOST_CAP, MOST_PORTS}
+use Rattle.hub_base.specs.declared.value.Port.{Port}
 use Rattle.hub_base.specs.Steps.{tells}
+use Rattle.hub_laws.proofs.Ready.{none_false}
+use Rattle.hub_parts.specs.Records.{Lists}
+use Rattle.hub_parts.specs.Lists.{IsMade}
 use Rattle.hub_core.specs.Hearing.{Heard}
-use Rattle.hub_core.specs.Records.{MachineLists}
-use Rattle.hub_core.specs.Follows.{IsMake, Acts, MayAct, MayTakeEffect}
-use Rattle.hub_core.specs.ListSteps.{ListChange, fault_on, effect_on, told_fault, acts_by, acts_on, all_wait_on, all_stalled, stalls_on, refusal_of}
+use Rattle.hub_core.specs.declared.tally.Tally.{Tally}
+use Rattle.hub_core.specs.Records.{MachineLists, machine_of}
+use Rattle.hub_core.specs.Follows.{IsMake, Acts}
+use Rattle.hub_core.specs.ListSteps.{ListChange, fault_on, is_unmade_on, open_on, effect_on, told_fault, acts_by, acts_on}
+use Rattle.hub_core.specs.ListSteps.{all_wait_on, all_stalled, stalls_on, refusal_of, none_open, stalled_events, with_board, with_steps}
 use Rattle.hub_core.specs.ListSteps.{answers_on, counted, turn_on}
 use Rattle.hub_core.proofs.Reached.{awake}
 
--- ---- what a fault says
-pub fault_is : {m n : MachineLists} {r o : Option Fault} (step : Step) → n ≡ m → r ≡ fault_on n.edition n.board step → r ≡ o
-    → fault_on m.edition m.board step ≡ o
-fault_is step same says is = ap (λ (k : MachineLists). fault_on k.edition k.board step) (sym same) ∙ sym says ∙ is
+-- ---- what is known of a step that meets no fault
+open_true : (b : Bool) → cond b None (Some fault.NotParked) ≡ None → b ≡ true
+open_true true h = refl
+open_true false h = cc
 
--- a step without a fault may take effect
-pub may_take_effect : {m n : MachineLists} {r : Option Fault} {pid : Pid} (step : Step) → MayAct m pid → n ≡ m → r ≡ fault_on n.edition n.board step
-    → r ≡ None → MayTakeEffect m pid step
-may_take_effect step may same says fine =
-    record { reached = may.reached; admitted = may.admitted; fault = fault_is step same says fine; steps = may.steps }
+pub fine_make : (edition : Edition) (b : Lists) (cap : ℕ) → fault_on edition b (Make cap) ≡ None → length b.ports < MOST_PORTS
+fine_make edition b cap h =
+    let few = none_false (nat_le MOST_PORTS (length b.ports)) fault.TooManyPorts None (none_false (nat_lt MOST_CAP cap) fault.BadCap _ h).1 in
+    grind (arith, common_steps, few.0)
+
+pub fine_close : (edition : Edition) (b : Lists) (p : Port) → fault_on edition b (Close p) ≡ None → IsMade b p
+fine_close edition b p h =
+    let made = none_false (is_unmade_on b p) fault.NoPort _ h in
+    let named = none_false (p.0 == 0) fault.NilClose _ made.1 in
+    (grind (arith, common_steps, named.0), grind (arith, common_steps, made.0))
+
+pub fine_cancel : (edition : Edition) (b : Lists) (q : Pid) → fault_on edition b (Cancel q) ≡ None → open_on b.waiting q.0 ≡ true
+fine_cancel edition b q h = open_true (open_on b.waiting q.0) h
+
+-- equal boards and counts make equal machines
+pub machine_as : {b c : Lists} {ts us : List Tally} (edition : Edition) (gone : List Bool) (steps : ℕ) → b ≡ c → ts ≡ us
+    → machine_of edition b ts gone steps ≡ machine_of edition c us gone steps
+machine_as {b} {c} {ts} {us} edition gone steps board counts =
+    ap (λ (l : Lists). machine_of edition l ts gone steps) board ∙ ap (λ (l : List Tally). machine_of edition c l gone steps) counts
 
 on_ok : {E : Type 0} {P Q : Type 0} (r : Result (Unit {0}) E) → (P → Q) → OnOk r P → OnOk r Q
 on_ok (Ok done) turns holds = turns holds
 on_ok (Err e) turns holds = tt
+
+-- what holds of both clauses of a result
+pub both_ok : {E : Type 0} {P Q R : Type 0} (r : Result (Unit {0}) E) → (P → Q → R) → OnOk r P → OnOk r Q → OnOk r R
+both_ok (Ok done) so p q = so p q
+both_ok (Err e) so p q = tt
 
 pub on_err : {E : Type 0} {P : Type 0} (r : Result (Unit {0}) E) → P → OnErr r P
 on_err (Ok done) holds = tt
@@ -92,7 +122,7 @@ acts_by-steps : (m : MachineLists) (pid : Pid) (step : Step) (o : Option Fault) 
 acts_by-steps m pid step None = effect-steps m pid step
 acts_by-steps m pid step (Some f) = refl
 
-pub acts-steps : (m : MachineLists) (pid : Pid) (step : Step) → (acts_on m pid step).machine.steps ≡ m.steps
+acts-steps : (m : MachineLists) (pid : Pid) (step : Step) → (acts_on m pid step).machine.steps ≡ m.steps
 acts-steps m pid step = acts_by-steps m pid step (fault_on m.edition m.board step)
 
 stalls_awake : (c : ListChange) → all_wait_on c.machine.board c.machine.gone ≡ false → stalls_on c ≡ c
@@ -107,7 +137,7 @@ turn_acts : (m : MachineLists) (e : Entry) → refusal_of m.board m.gone e.pid �
 turn_acts m e h = ap (counted m.steps) (sym (acts_stall m e (fault_on m.edition m.board e.step) h))
 
 -- where all wait behind it
-pub turn_stalls : (m : MachineLists) (e : Entry) → refusal_of m.board m.gone e.pid ≡ None
+turn_stalls : (m : MachineLists) (e : Entry) → refusal_of m.board m.gone e.pid ≡ None
     → all_wait_on (acts_on m e.pid e.step).machine.board (acts_on m e.pid e.step).machine.gone ≡ true
     → turn_on m e ≡ counted m.steps (all_stalled (acts_on m e.pid e.step))
 turn_stalls m e h all =
@@ -115,9 +145,38 @@ turn_stalls m e h all =
     turn_acts m e h ∙ ap (λ all. counted m.steps (cond all (all_stalled c) c)) all
 
 -- and where not
-pub turn_goes_on : (m : MachineLists) (e : Entry) → refusal_of m.board m.gone e.pid ≡ None
+turn_goes_on : (m : MachineLists) (e : Entry) → refusal_of m.board m.gone e.pid ≡ None
     → all_wait_on (acts_on m e.pid e.step).machine.board (acts_on m e.pid e.step).machine.gone ≡ false
     → turn_on m e ≡ counted m.steps (acts_on m e.pid e.step)
 turn_goes_on m e h none =
     let c = acts_on m e.pid e.step in
     turn_acts m e h ∙ ap (λ all. counted m.steps (cond all (all_stalled c) c)) none
+
+-- the machine and what is told behind a step, where all wait behind it
+pub machine_stalls : (m after : MachineLists) (e : Entry) → refusal_of m.board m.gone e.pid ≡ None → after ≡ (acts_on m e.pid e.step).machine
+    → all_wait_on after.board after.gone ≡ true
+    → with_steps (after.steps + 1) (with_board after (none_open after.board) after.counts) ≡ (turn_on m e).machine
+machine_stalls m after e free is all =
+    ap (λ (k : MachineLists). with_steps (k.steps + 1) (with_board k (none_open k.board) k.counts)) is
+    ∙ ap (λ n. with_steps (n + 1) (all_stalled (acts_on m e.pid e.step)).machine) (acts-steps m e.pid e.step)
+    ∙ sym (ap (λ (c : ListChange). c.machine) (turn_stalls m e free (ap (λ (k : MachineLists). all_wait_on k.board k.gone) (sym is) ∙ all)))
+
+pub events_stall : (m after : MachineLists) (e : Entry) → refusal_of m.board m.gone e.pid ≡ None → after ≡ (acts_on m e.pid e.step).machine
+    → all_wait_on after.board after.gone ≡ true
+    → (acts_on m e.pid e.step).events ++ stalled_events after.board.waiting ≡ (turn_on m e).events
+events_stall m after e free is all =
+    ap (λ (k : MachineLists). (acts_on m e.pid e.step).events ++ stalled_events k.board.waiting) is
+    ∙ sym (ap (λ (c : ListChange). c.events) (turn_stalls m e free (ap (λ (k : MachineLists). all_wait_on k.board k.gone) (sym is) ∙ all)))
+
+-- and where not
+pub machine_goes_on : (m after : MachineLists) (e : Entry) → refusal_of m.board m.gone e.pid ≡ None → after ≡ (acts_on m e.pid e.step).machine
+    → all_wait_on after.board after.gone ≡ false → with_steps (after.steps + 1) after ≡ (turn_on m e).machine
+machine_goes_on m after e free is none =
+    ap (λ (k : MachineLists). with_steps (k.steps + 1) k) is
+    ∙ ap (λ n. with_steps (n + 1) (acts_on m e.pid e.step).machine) (acts-steps m e.pid e.step)
+    ∙ sym (ap (λ (c : ListChange). c.machine) (turn_goes_on m e free (ap (λ (k : MachineLists). all_wait_on k.board k.gone) (sym is) ∙ none)))
+
+pub events_go_on : (m after : MachineLists) (e : Entry) → refusal_of m.board m.gone e.pid ≡ None → after ≡ (acts_on m e.pid e.step).machine
+    → all_wait_on after.board after.gone ≡ false → (acts_on m e.pid e.step).events ≡ (turn_on m e).events
+events_go_on m after e free is none =
+    sym (ap (λ (c : ListChange). c.events) (turn_goes_on m e free (ap (λ (k : MachineLists). all_wait_on k.board k.gone) (sym is) ∙ none)))

@@ -48,9 +48,9 @@ pub count-none_gone : (k procs : ℕ) → 0 ≡ count_gone (replicate k false) p
 count-none_gone k procs = sym (count-none (gone_on (replicate k false)) (range_with_len 0 procs) (none-gone k))
 
 -- one that is admitted exits
-pub count-exit : (b : Lists) (gone : List Bool) (pid : Pid) (left procs : ℕ) → b.procs ≡ procs → left ≡ count_gone gone procs → procs ≤ length gone
-    → refusal_of b gone pid ≡ None → left + 1 ≡ count_gone (slice_set gone pid.0 true) procs
-count-exit b gone pid left procs same is room h =
+pub count-exit : (b : Lists) (gone : List Bool) (pid : Pid) (count procs : ℕ) → b.procs ≡ procs → count ≡ count_gone gone procs → procs ≤ length gone
+    → refusal_of b gone pid ≡ None → count + 1 ≡ count_gone (slice_set gone pid.0 true) procs
+count-exit b gone pid count procs same is room h =
     let may : (pid.0 < b.procs) × (gone_on gone pid.0 ≡ false) = grind arith in
     let more = count-or (gone_on (slice_set gone pid.0 true)) (gone_on gone) (λ q. pid.0 == q) (range_with_len 0 procs)
     (λ q. gone-more gone pid.0 q (pid.0 == q) (omega arith) refl) (λ q e. subst (λ n. gone_on gone n ≡ false) (eqb-true pid.0 q e) may.1) in
@@ -69,13 +69,13 @@ count-open (w ∷ ws) procs apart below =
     omega (arith, more, first, count-open ws procs apart.1 (λ q e. below q (grind (arith, common_steps))))
 
 -- all wait where both are as many as there are processes
-pub all_wait-counts : (b : Lists) (gone : List Bool) (left procs : ℕ) → b.procs ≡ procs → left ≡ count_gone gone procs → Apart (open_calls b.waiting)
-    → ArePresent b.waiting gone procs → all_wait_on b gone ≡ (not (length b.waiting == 0) && (length b.waiting + left == procs))
-all_wait-counts b gone left procs same is apart present =
+pub all_wait-counts : (b : Lists) (gone : List Bool) (count procs : ℕ) → b.procs ≡ procs → count ≡ count_gone gone procs → Apart (open_calls b.waiting)
+    → ArePresent b.waiting gone procs → all_wait_on b gone ≡ (not (length b.waiting == 0) && (length b.waiting + count == procs))
+all_wait-counts b gone count procs same is apart present =
     let numbers = range_with_len 0 procs in
     let either : ℕ → Bool = λ q. gone_on gone q || open_on b.waiting q in
     let both = count-or either (gone_on gone) (open_on b.waiting) numbers (λ q. refl) (λ q e. (present q e).1) in
     let calls = count-open b.waiting procs apart (λ q e. (present q e).0) in
-    let each : list_all either numbers ≡ (length b.waiting + left == procs) =
+    let each : list_all either numbers ≡ (length b.waiting + count == procs) =
     count-all either numbers ∙ grind (arith, common_steps, length-range_with_len 0 procs) in
     rw same (ap (λ x. not (length b.waiting == 0) && x) each)

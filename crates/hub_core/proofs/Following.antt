@@ -2,6 +2,8 @@
 use Rattle.std.proofs.Common.{◌≡◌, ℕ, zero, suc, ◌+◌, ◌≤◌, ◌<◌, Bool, true, false, cond, List, [], ◌∷◌, ◌++◌}
 use Rattle.std.proofs.Common.{length, append-nil, refl, ap, ◌∙◌, sym, subst, Option, Some, None, arith}
 use Rattle.std.specs.Prelude.{slice_get, replicate}
+use Rattle.std.specs.Option.{option_map}
+use Rattle.std.proofs.lemmas.Option.{slice_get-map}
 use Rattle.std.proofs.lemmas.List.{length_push}
 use Rattle.hub_base.specs.declared.head.Head.{Head}
 use Rattle.hub_base.specs.declared.value.Pid.{Pid}
@@ -23,7 +25,7 @@ use Rattle.hub_laws.proofs.Ready.{admitted}
 use Rattle.hub_parts.specs.Records.{Ticketed}
 use Rattle.hub_core.specs.Records.{MachineLists, opened_machine}
 use Rattle.hub_core.specs.ListSteps.{turn_on, answers_on, effect_on, fault_on, refusal_of, gone_on}
-use Rattle.hub_core.specs.Follows.{Matches, IsEntryOf, TicketsAre, Follows, IsReached, Admits, Answers, RefusesFor}
+use Rattle.hub_core.specs.Follows.{Matches, IsEntryOf, TicketsAre, Follows, IsReached, Admits, Answers, RefusesFor, Turns}
 use Rattle.hub_core.specs.Agrees.{StepsAs}
 use Rattle.hub_core.proofs.Ports.{get_seam}
 use Rattle.hub_core.proofs.Effects.{fault_on-as, effect_on-as}
@@ -165,3 +167,18 @@ pub reached_next : (e : Entry) (m next : MachineLists) → IsReached m →
     next ≡ (turn_on m e).machine → IsReached next
 reached_next e m next r free few places machine =
     (r.0, r.1 ++ e ∷ [], (admits_on r.0 r.1 e m next (turn_on m e).events r.2 free few places machine refl).follows)
+
+-- the step of a machine that is known by its parts
+pub turns_as : {m n next : MachineLists} (e : Entry) → m ≡ n → refusal_of m.board m.gone e.pid ≡ None → m.board.procs ≤ MOST_PROCS →
+    length m.gone ≡ MOST_PROCS → next ≡ (turn_on m e).machine → Turns n e next (turn_on n e).events
+turns_as {m} {n} {next} e same free few places machine =
+    subst (λ (k : MachineLists). Turns k e next (turn_on k e).events) same (record {
+      ok = λ head es h. admits_on head es e m next (turn_on m e).events h free few places machine refl;
+      steps = ap (λ (k : MachineLists). k.steps) machine;
+    })
+
+-- ---- the open calls
+pub call_shown : (head : Head) (es : List Entry) (m : MachineLists) (place : ℕ) → Follows head es m
+    → option_map (λ (w : Ticketed). w.call) (slice_get m.board.waiting place) ≡ slice_get (state head es).parked place
+call_shown head es m place h =
+    sym (slice_get-map (λ (w : Ticketed). w.call) m.board.waiting place) ∙ ap (λ (cs : List OpenCall). slice_get cs place) h.matches.calls

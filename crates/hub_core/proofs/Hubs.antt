@@ -19,7 +19,7 @@ use Rattle.hub_base.specs.Reading.{is_exit}
 use Rattle.hub_base.specs.Text.{steps_of, one_step}
 use Rattle.hub_laws.proofs.Limits.{limits-law}
 use Rattle.hub_core.specs.Records.{MachineLists}
-use Rattle.hub_core.specs.declared.short_hub.ShortHub.TheInside.{Inside}
+use Rattle.hub_core.specs.declared.hub.HubOf.TheInside.{Inside}
 use Rattle.hub_core.specs.LogView.{LogView}
 use Rattle.hub_core.specs.Follows.{Follows, IsFine, IsMake, RefusesMake, Turns}
 use Rattle.hub_core.specs.ListSteps.{refusal_of}
@@ -86,32 +86,32 @@ entry_fits head journal e count places capacity legal adm is room =
 
 -- ---- a step of a hub
 
-pub turn_steps : (h : Inside) → HubKeeps h → h.machine.steps < 2 ^ 32 - 1
+pub turn_steps : {F : Type 0} (h : Inside F) → HubKeeps h → h.machine.steps < 2 ^ 32 - 1
 turn_steps h k =
     steps_few h.terms.head h.terms.limit h.entries.items h.machine k.follows k.legal (omega (arith, k.count, k.within)) k.limit.1 k.head.1
 
 -- a process that the hub does not refuse is not refused by its machine
-pub turn_admitted : (h : Inside) (pid : Pid) → HubKeeps h → refusal (state h.terms.head h.entries.items) pid ≡ None
+pub turn_admitted : {F : Type 0} (h : Inside F) (pid : Pid) → HubKeeps h → refusal (state h.terms.head h.entries.items) pid ≡ None
     → refusal_of h.machine.board h.machine.gone pid ≡ None
 turn_admitted h pid k admitted = refusal_of-as (state h.terms.head h.entries.items) h.machine pid k.follows.matches ∙ admitted
 
-made_room : (h : Inside) (e : Entry) → HubKeeps h → Takes (shown h) e
+made_room : {F : Type 0} (h : Inside F) (e : Entry) → HubKeeps h → Takes (shown h) e
     → count_after e.step h.count + places_after e.step h.places + h.terms.head.procs ≤ h.entries.capacity
 made_room h e k takes =
     room_after e.step h.count (length h.entries.items) h.places h.terms.head.procs (h.entries.capacity)
     (omega (arith, steps-length h.entries.items, k.count)) k.room takes.spare
 
 -- an entry that the hub takes finds a place
-pub has_place : (h : Inside) (e : Entry) → HubKeeps h → Takes (shown h) e → length h.entries.items + 1 ≤ h.entries.capacity
+pub has_place : {F : Type 0} (h : Inside F) (e : Entry) → HubKeeps h → Takes (shown h) e → length h.entries.items + 1 ≤ h.entries.capacity
 has_place h e k takes =
     entry_fits h.terms.head h.entries.items e h.count (places_after e.step h.places) (h.entries.capacity) k.legal takes.admitted k.count
     (made_room h e k takes)
 
-pub keeps_made : (h : Inside) (e : Entry) (entries : LogView) (machine : MachineLists) (told : List Event) (count places : ℕ) → HubKeeps h
+pub keeps_made : {F : Type 0} (h : Inside F) (e : Entry) (entries : LogView) (machine : MachineLists) (told : List Event) (count places : ℕ) → HubKeeps h
     → Takes (shown h) e → is_of h.terms.head.edition e.step ≡ true → Turns h.machine e machine told
     → entries.items ≡ h.entries.items ++ e ∷ [] → entries.capacity ≡ h.entries.capacity
     → count ≡ count_after e.step h.count → places ≡ places_after e.step h.places
-    → HubKeeps (record { terms = h.terms; places = places; count = count; machine = machine; entries = entries })
+    → HubKeeps (record { terms = h.terms; places = places; count = count; machine = machine; entries = entries; form = h.form })
 keeps_made h e entries machine told count places k takes fits turns grown same counted placed = record {
   head = k.head;
   limit = k.limit;
@@ -125,7 +125,7 @@ keeps_made h e entries machine told count places k takes fits turns grown same c
   room = omega (arith, made_room h e k takes, counted, placed, same);
 }
 
-pub steps_made : {h : Inside} {old new : HubView} (e : Entry) {machine : MachineLists} {told : List Event} → HubKeeps h → Takes (shown h) e
+pub steps_made : {F : Type 0} {h : Inside F} {old new : HubView} (e : Entry) {machine : MachineLists} {told : List Event} → HubKeeps h → Takes (shown h) e
     → Turns h.machine e machine told → (shown h).hub ≡ old → new ≡ with_entry e (shown h).hub → Steps old e new told
 steps_made {h} e {told = told} k takes turns was is = subst (λ (x : HubView × HubView). Steps x.0 e x.1 told) (λ i. (was i, sym is i)) (record {
   room = takes.room;
@@ -159,9 +159,9 @@ make_grows Exit places make = absurd make
 make_grows (Cancel q) places make = absurd make
 
 -- an admitted make that the machine refuses memory
-pub rules_refused : {h : Inside} {old mid new : HubInMemory} {e : Entry} {machine : MachineLists} {told : List Event} → HubKeeps h → Takes (shown h) e
-    → RefusesMake h.machine e machine told → StepRules {A = Unit {0}} old e mid (Ok tt) → (shown h).hub ≡ old.hub → new.hub ≡ old.hub
-    → new.capacity ≡ mid.capacity → StepRules {A = Unit {0}} old e new (Err NoMemory)
+pub rules_refused : {F : Type 0} {h : Inside F} {old mid new : HubInMemory} {e : Entry} {machine : MachineLists} {told : List Event}
+    → HubKeeps h → Takes (shown h) e → RefusesMake h.machine e machine told → StepRules {A = Unit {0}} old e mid (Ok tt) → (shown h).hub ≡ old.hub
+    → new.hub ≡ old.hub → new.capacity ≡ mid.capacity → StepRules {A = Unit {0}} old e new (Err NoMemory)
 rules_refused {h} {old} {e = e} k takes refuses r was unchanged same = record {
   refused = subst (λ (x : HubView). Refuses x e NoMemory) was (takes.room, takes.admitted, make_grows e.step h.places refuses.make);
   memory = λ is has. refuses.make;

@@ -112,6 +112,3 @@ module _ (P : Ticketed → Type 0) (n : ℕ) where
       → Leaves m.board (answers_on m e o).machine.board
   answers_on_leaves m e None is new = stalls_on_leaves m.board (effect_on m e.pid e.step) (effect_on_leaves m e.pid e.step is new)
   answers_on_leaves m e (Some f) is new = same_calls m.board m.board refl refl refl
-
-pub fire_on-procs : (b : Lists) (ts : List Tally) (k : Case) → (fire_on b ts k).board.procs ≡ b.procs
-fire_on-procs b ts k = (fire_on_leaves (λ w. Unit {0}) 0 b ts k).procs

@@ -91,13 +91,6 @@ IsMake (Close p) = ⊥
 IsMake Exit = ⊥
 IsMake (Cancel q) = ⊥
 
--- a step may take effect: its process is admitted, and it meets no fault
-pub record MayTakeEffect (m : MachineLists) (pid : Pid) (step : Step) : Type 0 where
-  pub reached : IsReached m
-  pub admitted : refusal_of m.board m.gone pid ≡ None
-  pub fault : fault_on m.edition m.board step ≡ None
-  pub steps : m.steps < 2 ^ 32 - 1
-
 -- an admitted step, of whose fault nothing is known
 pub record MayAct (m : MachineLists) (pid : Pid) : Type 0 where
   pub reached : IsReached m

@@ -9,7 +9,7 @@ pub mod ListSteps
 pub mod Follows
 pub mod Agrees
 pub mod Looks
-pub mod StateKeeps
+pub mod MachineKeeps
 pub mod LogView
 pub mod LogKeeps
 pub mod HubView

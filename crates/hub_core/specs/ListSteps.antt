@@ -69,6 +69,11 @@ abbrev pub calls_on : Lists → List Tally → ℕ → Pid → List Case → Boo
 calls_on b ts ticket pid cases default word =
     chooses_on b ts ticket pid cases default (chosen_on b cases word)
 
+-- the board and the counts are what follows a call
+pub record IsCalled (b : Lists) (ts : List Tally) (c : ListCall) : Type 0 where
+  pub board : b ≡ c.board
+  pub counts : ts ≡ c.counts
+
 -- ---- a close
 -- the open calls with no case on the port
 abbrev pub off_port : Port → List Ticketed → List Ticketed

@@ -19,6 +19,11 @@ pub record MachineLists : Type 0 where
   -- how many entries were admitted: the next call's ticket
   pub steps : ℕ
 
+-- the machine of these parts
+abbrev pub machine_of : Edition → Lists → List Tally → List Bool → ℕ → MachineLists
+machine_of edition board counts gone steps =
+    record { edition = edition; board = board; gone = gone; counts = counts; steps = steps }
+
 -- a machine with this head, and nothing made, gone or open
 abbrev pub opened_machine : Head → MachineLists
 opened_machine h =

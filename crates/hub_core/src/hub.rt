@@ -1,145 +1,283 @@
-//! A hub: a machine and its journal.
+//! A hub: a machine and its journal, in one form or the other.
+//!
+//! The journal holds the admitted entries, and the machine is what they lead to. It has room for the
+//! exit of each process from the opening on, and for the steps that were reserved; so neither an
+//! exit nor a reserved step asks for memory.
 
-ghost use Rattle.std.specs.Prelude.{◌≡◌, ◌≤◌, ◌<◌, ◌+◌, IfOk, IfErr, OnOk, OnErr, length, max, true};
-ghost use Rattle.hub_base.specs.Head.{IsHead, AreOf, head_of, is_of};
+ghost use Rattle.std.specs.Prelude.{◌≡◌, ◌≤◌, ◌<◌, ◌+◌, IfOk, IfErr, IsOk, OnOk, OnErr, length, max, slice_get};
+ghost use Rattle.std.specs.Option.{option_map};
+ghost use Rattle.hub_base.specs.Head.{IsHead, AreOf, head_of};
 ghost use Rattle.hub_base.specs.Runs.{kept};
+ghost use Rattle.hub_base.specs.Steps.{refusal};
+ghost use Rattle.hub_base.specs.Text.{steps_of};
+ghost use Rattle.hub_parts.specs.Lists.{shown_call};
 ghost use Rattle.hub_core.specs.Looks.{look_at, value_at};
-ghost use Rattle.hub_core.specs.HubView.{Steps, StepRules, RefusesOpening, opened_hub, state_of, terms_of, IsLimit};
+ghost use Rattle.hub_core.specs.HubView.{RefusesOpening, opened_hub, state_of, terms_of, IsLimit};
 
-use crate::machine::empty;
-use crate::short_hub::Form;
-use crate::{OpenFault, ShortHub};
+use crate::form::{Form, Short, Whole};
+use crate::log::Log;
+use crate::{Machine, OpenFault, ShortJournal, Terms};
 use hub_base::{
-    Edition, Entry, EntryRef, Events, Fault, Head, Journal, Look, NoMemory, Port, Value,
+    Cases, Edition, Entry, Fault, Head, Journal, Look, MOST_PROCS, MOST_STEPS, NoMemory, Pid, Port,
+    Value,
 };
 use std::alloc::Global;
-use std::marker::Model;
+use std::marker::{Model, PhantomData};
 
-/// A hub of channels: makes the steps of its processes, tells what follows, and keeps a journal.
+/// A hub of channels: makes the steps of its processes, tells what follows, and keeps a journal, in the form `F`.
 #[derive(Drop)]
-pub struct Hub {
-    /// The hub, none of whose entries is kept short.
-    kept: ShortHub,
+pub struct HubOf<F: Form> {
+    /// What it was opened with.
+    pub(crate) terms: Terms,
+    /// How many steps other than makes take no memory.
+    pub(crate) places: u32,
+    /// How many entries of the journal are no exits.
+    pub(crate) count: u32,
+    /// What the journal has led to.
+    pub(crate) machine: Machine,
+    /// The journal: the admitted entries, in order.
+    pub(crate) entries: Log,
+    /// The form of the journal.
+    form: PhantomData<F>,
 }
 
-impl Model for Hub {
-    ghost use Rattle.std.specs.Prelude.{◌≡◌};
-    ghost use Rattle.hub_core.specs.HubView.{HubInMemory};
+/// A hub whose journal is written out.
+pub type Hub = HubOf<Whole>;
 
-    ghost Value = { HubInMemory };
+/// A hub whose journal is kept short until it is asked for.
+pub type ShortHub = HubOf<Short>;
 
-    ghost view = { λ h. h.kept.memory };
+impl<F: Form> Model for HubOf<F> {
+    ghost use Rattle.hub_core.specs.HubView.{ShortInMemory};
 
-    ghost invariant = { λ h. h.kept.short ≡ 0 };
+    ghost Value = { ShortInMemory };
+
+    ghost use Rattle.hub_core.specs.HubKeeps.{HubKeeps, InForm, shown_short};
+
+    ghost view = { λ h. shown_short h };
+
+    ghost invariant = { λ h. HubKeeps h × InForm F.whole h.entries.short };
 }
 
-impl Hub {
+impl<F: Form> HubOf<F> {
     /// A hub of this edition, of 1 to `MOST_PROCS` processes, whose journal may hold `limit` entries that are no exits, 1
     /// to `MOST_STEPS`. It takes the memory of all open calls, and of an exit of each process in the journal.
     ///
     /// Err, tested in this order, with nothing kept: `BadProcs`, `BadLimit`, `NoMemory`.
-    pub fn open(alloc: Global, procs: u8, limit: u32, edition: Edition) -> Result<Hub, OpenFault>
-        ensures ok { IfOk result (λ h. h.hub ≡ opened_hub (terms_of edition procs limit)) }
-        ensures exact { IfOk result (λ h. h.capacity ≡ procs) }
+    pub fn open(
+        alloc: Global,
+        procs: u8,
+        limit: u32,
+        edition: Edition,
+    ) -> Result<HubOf<F>, OpenFault>
+        ensures ok { IfOk result (λ h. h.memory.hub ≡ opened_hub (terms_of edition procs limit)) }
+        ensures exact { IfOk result (λ h. h.memory.capacity ≡ procs) }
+        ensures whole { IfOk result (λ h. h.short ≡ 0) }
         ensures bounds { OnOk result (IsHead (head_of edition procs) × IsLimit limit) }
         ensures err { IfErr result (λ f. RefusesOpening (terms_of edition procs limit) f) }
     {
-        Ok(Hub {
-            kept: ShortHub::open(alloc, procs, limit, edition)?,
+        if procs == 0 || procs as usize > MOST_PROCS {
+            return Err(OpenFault::BadProcs);
+        }
+        if limit == 0 || limit > MOST_STEPS {
+            return Err(OpenFault::BadLimit);
+        }
+        let terms = Terms {
+            head: Head { edition, procs },
+            limit,
+        };
+        let machine = Machine::new(alloc, terms.head)?;
+        let entries = Log::with_capacity(alloc, procs.into())?;
+        Ok(HubOf {
+            terms,
+            places: 0,
+            count: 0,
+            machine,
+            entries,
+            form: PhantomData,
         })
     }
 
-    /// Makes a step that the hub's edition has. The first event is the caller's answer; the calls that ended
-    /// follow, in order of arrival.
-    ///
-    /// Refused by `JournalFull`, `NoProcess`, `Gone`, `Busy` and `NoMemory` alone, tested in this
-    /// order; the hub is then as before. An exit is never refused by `JournalFull` or `NoMemory`,
-    /// and by `NoMemory` only a make is, or a step for which no place is left. All other faults are
-    /// answers, and their entries are kept.
-    pub fn step(&mut self, entry: Entry) -> Result<Events, Fault>
-        requires fits { is_of self.old.hub.terms.head.edition entry.step ≡ true }
-        ensures ok { IfOk result (λ events. Steps self.old.hub entry self.new.hub events.items) }
-        ensures rules { StepRules self.old entry self.new result }
+    /// A hub with the same journal, at which all has happened that has at this one. An error is memory.
+    pub fn copy(&self, alloc: Global) -> Result<HubOf<F>, NoMemory>
+        ensures { IfOk result (λ h. h.memory.hub ≡ self.now.memory.hub) }
     {
-        let mut events = Events::new();
-        self.step_into(&entry.by_slice(), &mut events)?;
-        Ok(events)
+        Ok(HubOf {
+            terms: self.terms,
+            places: self.places,
+            count: self.count,
+            machine: self.machine.copy(alloc)?,
+            entries: self.entries.copy(alloc)?,
+            form: PhantomData,
+        })
     }
 
-    /// Makes a step as `step` does, and leaves its events in place of those that were there. After a
-    /// refusal these may be any.
-    pub fn step_into(&mut self, entry: &EntryRef<'_>, events: &mut Events) -> Result<(), Fault>
-        requires fits { is_of self.old.hub.terms.head.edition entry.now.step ≡ true }
-        ensures ok { OnOk result (Steps self.old.hub entry.now self.new.hub events.new.items) }
-        ensures rules { StepRules self.old entry.now self.new result }
+    /// Makes it a hub with the journal of another, at which all has happened that has at that one. It takes no memory where
+    /// it has as much as that one has. After a refusal, which is memory, it is as before.
+    pub fn copy_from(&mut self, alloc: Global, other: &HubOf<F>) -> Result<(), NoMemory>
+        ensures ok { OnOk result (self.new.memory.hub ≡ other.now.memory.hub) }
+        ensures unchanged { OnErr result (self.new.memory.hub ≡ self.old.memory.hub) }
     {
-        empty(events);
-        self.kept.make(entry, Form::Whole, events)
+        self.entries.reserve_for(&other.entries)?;
+        self.machine.copy_from(alloc, &other.machine)?;
+        self.entries.copy_from(&other.entries);
+        self.terms = other.terms;
+        self.places = other.places;
+        self.count = other.count;
+        Ok(())
     }
 
     /// Makes room in the journal: after `Ok` the next `k` steps other than makes take no memory. After
     /// a refusal the hub is as before.
     pub fn reserve(&mut self, k: u32) -> Result<(), NoMemory>
         ensures ok { OnOk result (
-            self.new.hub ≡ record self.old.hub { places = max self.old.hub.places k }) }
-        ensures more { OnErr result (self.old.hub.places < k) }
+            self.new.memory.hub ≡ record self.old.memory.hub { places = max self.old.memory.hub.places k }) }
+        ensures more { OnErr result (self.old.memory.hub.places < k) }
         ensures full { OnErr result (
-            self.old.capacity < length self.old.hub.journal + k + self.old.hub.terms.head.procs) }
+            self.old.memory.capacity < length self.old.memory.hub.journal + k + self.old.memory.hub.terms.head.procs) }
         ensures unchanged { OnErr result (self.new ≡ self.old) }
-        ensures spare { length self.old.hub.journal + k + self.old.hub.terms.head.procs ≤ self.old.capacity
-            → self.new.capacity ≡ self.old.capacity }
-        ensures kept { k ≤ self.old.hub.places → self.new.capacity ≡ self.old.capacity }
-        ensures capacity { self.old.capacity ≤ self.new.capacity }
+        ensures spare { length self.old.memory.hub.journal + k + self.old.memory.hub.terms.head.procs ≤ self.old.memory.capacity
+            → self.new.memory.capacity ≡ self.old.memory.capacity }
+        ensures kept { k ≤ self.old.memory.hub.places → self.new.memory.capacity ≡ self.old.memory.capacity }
+        ensures capacity { self.old.memory.capacity ≤ self.new.memory.capacity }
+        ensures short { self.new.short ≡ self.old.short }
     {
-        self.kept.reserve(k)
+        if k > self.places {
+            self.entries
+                .reserve_more(k as usize + self.terms.head.procs as usize)?;
+            self.places = k;
+        }
+        Ok(())
     }
 
     /// The capacity and the counts of a port, or `None` for port 0 and for a port that was not made.
     pub fn look(&self, port: Port) -> Option<Look>
-        ensures { result ≡ look_at (state_of self.now.hub) port }
+        ensures { result ≡ look_at (state_of self.now.memory.hub) port }
     {
-        self.kept.look(port)
+        self.machine.look(port)
     }
 
     /// The value at a place of a port's buffer, 0 the oldest. `None` past its end, for port 0 and for
     /// a port that was not made.
     pub fn buffered(&self, port: Port, place: u32) -> Option<Value>
-        ensures { result ≡ value_at (state_of self.now.hub) port place }
+        ensures { result ≡ value_at (state_of self.now.memory.hub) port place }
     {
-        self.kept.buffered(port, place)
+        self.machine.buffered(port, place)
+    }
+
+    /// The open call at this place, counted from the oldest: whose it is, and its cases. `None` behind the newest.
+    pub fn call_at(&self, place: usize) -> Option<(Pid, Cases)>
+        ensures { option_map shown_call result ≡ slice_get (state_of self.now.memory.hub).parked place }
+    {
+        self.machine.call_at(place)
+    }
+
+    /// Why a step of this process would be refused now: `NoProcess`, `Gone`, `Busy`, or nothing.
+    pub fn refusal(&self, pid: Pid) -> Option<Fault>
+        ensures { result ≡ refusal (state_of self.now.memory.hub) pid }
+    {
+        self.machine.refusal(pid)
+    }
+
+    /// What it was opened with.
+    pub fn terms(&self) -> Terms
+        ensures value { result ≡ self.now.memory.hub.terms }
+        ensures head { IsHead result.head }
+        ensures limit { IsLimit result.limit }
+    {
+        self.terms
+    }
+
+    /// How many steps other than makes take no memory.
+    pub fn places(&self) -> u32
+        ensures { result ≡ self.now.memory.hub.places }
+    {
+        self.places
+    }
+
+    /// That each entry of its journal was admitted when it came, and is one that the edition has, and that the journal has no
+    /// more steps than its limit.
+    pub fn journal_is_legal(&self)
+        ensures legal { kept self.now.memory.hub.terms.head self.now.memory.hub.journal ≡ self.now.memory.hub.journal }
+        ensures fits { AreOf self.now.memory.hub.terms.head.edition self.now.memory.hub.journal }
+        ensures few { steps_of self.now.memory.hub.journal ≤ self.now.memory.hub.terms.limit }
+    {
+        let _count = self.count;
     }
 
     /// What its journal's head lines say: its edition, and its number of processes.
     pub fn head(&self) -> Head
-        ensures value { result ≡ self.now.hub.terms.head }
+        ensures value { result ≡ self.now.memory.hub.terms.head }
         ensures range { IsHead result }
     {
-        self.kept.head()
+        self.terms.head
     }
 
+    /// How many entries the journal has.
+    pub fn len(&self) -> usize
+        ensures { result ≡ length self.now.memory.hub.journal }
+    {
+        self.entries.len()
+    }
+
+    /// The journal's entry at this place, counted from 0; `None` behind the last. No entry is written out for it. Each
+    /// entry was admitted when it came, and is one that the edition has.
+    pub fn entry(&self, place: usize) -> Option<Entry>
+        ensures entry { result ≡ slice_get self.now.memory.hub.journal place }
+        ensures legal { kept self.now.memory.hub.terms.head self.now.memory.hub.journal ≡ self.now.memory.hub.journal }
+        ensures fits { AreOf self.now.memory.hub.terms.head.edition self.now.memory.hub.journal }
+    {
+        self.entries.entry(place)
+    }
+
+    /// The journal of the hub, which ends. It takes no memory.
+    pub fn into_journal(self) -> Journal
+        ensures journal { result ≡ record { head = self.memory.hub.terms.head; entries = self.memory.hub.journal } }
+        ensures legal { kept self.memory.hub.terms.head self.memory.hub.journal ≡ self.memory.hub.journal }
+        ensures fits { AreOf self.memory.hub.terms.head.edition self.memory.hub.journal }
+    {
+        let Head { edition, procs } = self.terms.head;
+        Journal::of(edition, procs, self.entries.into_vec())
+    }
+}
+
+impl HubOf<Whole> {
     /// The journal so far. Each of its entries was admitted when it came, and is one that the edition has.
     pub fn entries(&self) -> &[Entry]
-        ensures journal { result.now ≡ self.now.hub.journal }
-        ensures legal { kept self.now.hub.terms.head self.now.hub.journal ≡ self.now.hub.journal }
-        ensures fits { AreOf self.now.hub.terms.head.edition self.now.hub.journal }
+        ensures journal { result.now ≡ self.now.memory.hub.journal }
+        ensures whole { self.now.short ≡ 0 }
+        ensures legal { kept self.now.memory.hub.terms.head self.now.memory.hub.journal ≡ self.now.memory.hub.journal }
+        ensures fits { AreOf self.now.memory.hub.terms.head.edition self.now.memory.hub.journal }
     {
-        self.kept.whole()
-    }
-
-    /// The journal of the hub, which ends.
-    pub fn into_journal(self) -> Journal
-        ensures journal { result ≡ record { head = self.hub.terms.head; entries = self.hub.journal } }
-        ensures legal { kept self.hub.terms.head self.hub.journal ≡ self.hub.journal }
-        ensures fits { AreOf self.hub.terms.head.edition self.hub.journal }
-    {
-        self.kept.into_journal()
+        self.entries.as_slice()
     }
 
     /// The same hub, which keeps its journal short from now on. It takes no memory.
     pub fn shortened(self) -> ShortHub
-        ensures { result.memory ≡ self }
+        ensures { result ≡ self }
     {
-        let Hub { kept } = self;
-        kept
+        HubOf {
+            terms: self.terms,
+            places: self.places,
+            count: self.count,
+            machine: self.machine,
+            entries: self.entries,
+            form: PhantomData,
+        }
+    }
+}
+
+impl HubOf<Short> {
+    /// The journal of the hub, which ends, kept short. It takes memory only where some of its entries are written out; an
+    /// `Err` is memory.
+    pub fn into_short_journal(self, alloc: Global) -> Result<ShortJournal, NoMemory>
+        ensures journal { IfOk result (λ j. j ≡ record { head = self.memory.hub.terms.head; entries = self.memory.hub.journal }) }
+        ensures legal { kept self.memory.hub.terms.head self.memory.hub.journal ≡ self.memory.hub.journal }
+        ensures fits { AreOf self.memory.hub.terms.head.edition self.memory.hub.journal }
+        ensures short { self.short ≡ length self.memory.hub.journal → IsOk result }
+    {
+        let head = self.terms.head;
+        let list = self.entries.into_short(alloc)?;
+        Ok(ShortJournal::of(head, list))
     }
 }

@@ -1,34 +1,36 @@
 //! The step function of a hub: a machine, the hub with its journal, and runs of steps.
 #![tactic(auto)]
 
+mod admitted;
 mod beside;
 mod brief;
 mod closing;
+mod exited;
 mod firing;
+mod form;
 mod hub;
 mod log;
 mod looking;
 mod machine;
-mod machine_state;
 mod opening;
 mod ready_cases;
 mod refusals;
 mod runs;
 mod select;
 mod short_entries;
-mod short_hub;
 mod short_journal;
 mod stalling;
+mod stepping;
 mod tally;
 mod terms;
 mod touching;
 
-pub use hub::Hub;
+pub use form::{Form, Short, Whole};
+pub use hub::{Hub, HubOf, ShortHub};
 pub use machine::Machine;
 pub use opening::OpenFault;
 pub use runs::{ListFault, run};
 pub use short_entries::ShortEntries;
-pub use short_hub::ShortHub;
 pub use short_journal::{ShortJournal, read_short_journal, write_short_journal};
 pub use tally::Tally;
 pub use terms::Terms;

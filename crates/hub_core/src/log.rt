@@ -5,7 +5,7 @@
 //! beside them only the cases of a call that has several, or sends bytes; the entries are written out when they are asked
 //! for. Their places are reserved as if they were written, so that this takes no memory.
 
-ghost use Rattle.std.specs.Prelude.{◌≡◌, ◌≤◌, ◌<◌, ◌+◌, ◌++◌, ◌∷◌, [], IsTrue, ◌↔◌, true, false, IfOk, IsOk, OnOk, OnErr, length, slice_get, vec_len};
+ghost use Rattle.std.specs.Prelude.{◌≡◌, ◌≤◌, ◌<◌, ◌+◌, ◌++◌, ◌∷◌, [], true, false, IfOk, IsOk, OnOk, OnErr, length, slice_get, vec_len};
 ghost use Rattle.std.specs.Vec.{vec_capacity};
 ghost use Rattle.hub_core.specs.LogView.{FitsShort, HasRoomFor, places_asked};
 
@@ -325,13 +325,6 @@ impl Log {
         ensures fits { result ≤ self.now.capacity }
     {
         self.whole.len() + self.briefs.len()
-    }
-
-    /// Whether all entries are written out.
-    pub(crate) fn is_whole(&self) -> bool
-        ensures { IsTrue result ↔ (self.now.short ≡ 0) }
-    {
-        self.briefs.is_empty()
     }
 
     /// The entries, which are written out.

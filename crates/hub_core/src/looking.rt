@@ -1,8 +1,7 @@
 //! Looks at a port: its capacity and counts, and the values in its buffer.
 //! Go: "Length and capacity".
 
-ghost use Rattle.std.specs.Prelude.{◌≡◌, ◌≤◌, length};
-ghost use Rattle.hub_core.specs.Prelude.{IsMade};
+ghost use Rattle.std.specs.Prelude.{◌≡◌, length};
 ghost use Rattle.hub_core.specs.Looks.{look_on, value_on};
 
 use crate::tally::Tallies;

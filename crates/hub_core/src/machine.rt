@@ -4,7 +4,7 @@
 //! order and each under the place of its entry among the admitted ones; its buffers are what was
 //! sent and not yet received; its tallies are how many values were sent and received.
 
-ghost use Rattle.std.specs.Prelude.{◌≡◌, ◌≤◌, ◌<◌, ◌+◌, ◌-◌, ◌^◌, ℕ, List, [], None, length, slice_get, IfOk, IfErr, OnOk, OnErr, IsErrOf};
+ghost use Rattle.std.specs.Prelude.{◌≡◌, ◌≤◌, ◌<◌, ◌+◌, ◌-◌, ◌^◌, List, [], None, length, slice_get, IfOk, IfErr, OnOk, OnErr, IsErrOf};
 ghost use Rattle.std.specs.Option.{option_map};
 ghost use Rattle.hub_parts.specs.Lists.{shown_call};
 ghost use Rattle.hub_core.specs.Prelude.{Entry, Head, IsHead, MOST_EVENTS, refusal, state};
@@ -13,29 +13,42 @@ ghost use Rattle.hub_core.specs.ListSteps.{refusal_of, turn_on};
 ghost use Rattle.hub_core.specs.Looks.{look_at, value_at};
 ghost use Rattle.hub_core.specs.Follows.{Follows, Admits, Answers, Tells, IsMake, IsFine, RefusesFor, Turns, RefusesMake};
 
-use crate::machine_state::{MachineState, tells};
+use crate::admitted::tells;
+use crate::exited::Exited;
+use crate::firing::CountedBoard;
+use crate::looking::{buffered, look};
+use crate::refusals::refusal;
+use crate::stalling::{all_wait, stop_all};
+use crate::tally::Tallies;
 use hub_base::{
     Cases, EntryRef, Events, Fault, Head, Hears, Look, NoMemory, Pid, Port, Value, What,
 };
+use hub_parts::Board;
 use std::alloc::Global;
 use std::marker::Model;
 
 /// The step function of a hub: makes steps and tells what follows, without a journal.
 #[derive(Drop)]
 pub struct Machine {
-    /// What the entries so far have led to.
-    state: MachineState,
+    /// What the journal's head says.
+    head: Head,
+    /// The buffers, the calls that wait, and what each port has carried.
+    counted: CountedBoard,
+    /// Who has exited.
+    exited: Exited,
+    /// How many entries came, from which each call has its ticket.
+    steps: u32,
 }
 
 impl Model for Machine {
-    ghost use Rattle.hub_core.specs.Records.{MachineLists};
-    ghost use Rattle.hub_core.specs.Follows.{IsReached};
+    ghost use Rattle.hub_core.specs.Records.{MachineLists, machine_of};
+    ghost use Rattle.hub_core.specs.MachineKeeps.{MachineKeeps};
 
     ghost Value = { MachineLists };
 
-    ghost view = { λ m. m.state };
+    ghost view = { λ m. machine_of m.head.edition m.counted.board m.counted.tallies m.exited.gone m.steps };
 
-    ghost invariant = { λ m. IsReached m.state };
+    ghost invariant = { λ m. MachineKeeps m };
 }
 
 /// Takes the events away one by one. They are few, and to clear the list would cost more.
@@ -54,7 +67,13 @@ impl Machine {
         ensures { IfOk result (λ m. Follows head [] m) }
     {
         Ok(Machine {
-            state: MachineState::new(alloc, head)?,
+            head,
+            counted: CountedBoard {
+                board: Board::new(alloc, head.procs)?,
+                tallies: Tallies::new(),
+            },
+            exited: Exited::none(),
+            steps: 0,
         })
     }
 
@@ -63,7 +82,10 @@ impl Machine {
         ensures { IfOk result (λ m. m ≡ self.now) }
     {
         Ok(Machine {
-            state: self.state.copy(alloc)?,
+            head: self.head,
+            counted: self.counted.copy(alloc)?,
+            exited: self.exited,
+            steps: self.steps,
         })
     }
 
@@ -73,11 +95,14 @@ impl Machine {
         ensures ok { OnOk result (self.new ≡ other.now) }
         ensures unchanged { OnErr result (self.new ≡ self.old) }
     {
-        if self.state.has_shape_of(&other.state) {
-            self.state.copy_from(&other.state);
+        if self.counted.board.has_shape_of(&other.counted.board) {
+            self.counted.copy_from(&other.counted);
         } else {
-            self.state = other.state.copy(alloc)?;
+            self.counted = other.counted.copy(alloc)?;
         }
+        self.head = other.head;
+        self.exited = other.exited;
+        self.steps = other.steps;
         Ok(())
     }
 
@@ -103,7 +128,7 @@ impl Machine {
         ensures empty { OnErr result (events.new.items ≡ []) }
     {
         empty(events);
-        if let Some(fault) = self.state.refusal(entry.pid) {
+        if let Some(fault) = self.refusal(entry.pid) {
             return Err(fault);
         }
         match self.step_admitted(entry, events) {
@@ -129,7 +154,7 @@ impl Machine {
         ensures empty { OnErr result (events.new.items ≡ []) }
     {
         empty(events);
-        match self.state.refusal(entry.pid) {
+        match self.refusal(entry.pid) {
             None => self.step_admitted(entry, events),
             Some(fault) => {
                 events.hear(tells(entry.pid, What::Fault(fault)));
@@ -159,7 +184,7 @@ impl Machine {
         ensures unchanged { OnErr result (self.new ≡ self.old) }
         ensures silent { OnErr result (events.new ≡ events.old) }
     {
-        if let Some(fault) = self.state.refusal(entry.pid) {
+        if let Some(fault) = self.refusal(entry.pid) {
             events.hear(tells(entry.pid, What::Fault(fault)));
             return Ok(());
         }
@@ -185,24 +210,36 @@ impl Machine {
         ensures err { OnErr result (RefusesMake self.old entry.now self.new []) }
         ensures silent { OnErr result (events.new ≡ events.old) }
     {
-        self.state.turn(entry, events)?;
+        self.counted.act(
+            &mut self.exited,
+            self.head.edition,
+            self.steps,
+            entry,
+            events,
+        )?;
+        if all_wait(&self.counted.board, &self.exited, self.head.procs) {
+            stop_all(&mut self.counted.board, events);
+        }
+        self.steps += 1;
         Ok(())
     }
 
     /// Why a step of this process would be refused now: `NoProcess`, `Gone`, `Busy`, or nothing.
     pub fn refusal(&self, pid: Pid) -> Option<Fault>
-        ensures { (h : Head) (es : List Entry) → Follows h es self.now
+        ensures run { (h : Head) (es : List Entry) → Follows h es self.now
             → result ≡ refusal (state h es) pid }
+        ensures lists { result ≡ refusal_of self.now.board self.now.gone pid }
     {
-        self.state.refusal(pid)
+        refusal(&self.counted.board, &self.exited, self.head.procs, pid)
     }
 
     /// The open call at this place, counted from the oldest: whose it is, and its cases. `None` behind the newest.
+    #[tactic(auto, using(crate::proofs::Following::call_shown))]
     pub fn call_at(&self, place: usize) -> Option<(Pid, Cases)>
         ensures { (h : Head) (es : List Entry) → Follows h es self.now
             → option_map shown_call result ≡ slice_get (state h es).parked place }
     {
-        self.state.call_at(place)
+        self.counted.board.call(place)
     }
 
     /// The capacity and the counts of a port, or `None` for port 0 and for a port that was not made.
@@ -210,7 +247,7 @@ impl Machine {
         ensures { (h : Head) (es : List Entry) → Follows h es self.now
             → result ≡ look_at (state h es) port }
     {
-        self.state.look(port)
+        look(&self.counted.board, &self.counted.tallies, port)
     }
 
     /// The value at a place of a port's buffer, 0 the oldest. `None` past its end, for port 0 and
@@ -219,6 +256,6 @@ impl Machine {
         ensures { (h : Head) (es : List Entry) → Follows h es self.now
             → result ≡ value_at (state h es) port place }
     {
-        self.state.buffered(port, place)
+        buffered(&self.counted.board, port, place)
     }
 }

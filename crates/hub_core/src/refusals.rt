@@ -1,29 +1,24 @@
 //! Why a step is not admitted, and the faults that are answers to admitted steps.
 
-ghost use Rattle.std.specs.Prelude.{◌≡◌, ◌≤◌, ◌<◌, false};
+ghost use Rattle.std.specs.Prelude.{◌≡◌, ◌≤◌, ◌<◌};
 ghost use Rattle.std.specs.List.{list_any};
 ghost use Rattle.hub_base.specs.declared.entry.Step.TheVariants.{Make, Close, Cancel};
 ghost use Rattle.hub_core.specs.Prelude.{Edition, port_of};
 ghost use Rattle.hub_core.specs.ListSteps.{refusal_of, fault_on, call_fault_on, is_unmade_on};
 
-use crate::stalling::has_gone;
+use crate::exited::Exited;
 use hub_base::{Case, Edition, Fault, MOST_CAP, MOST_PORTS, MOST_PROCS, Pid, Port};
 use hub_parts::Board;
 
 /// Why a step of this process is not admitted.
-pub(crate) fn refusal(
-    board: &Board,
-    gone: &[bool; MOST_PROCS],
-    procs: u8,
-    pid: Pid,
-) -> Option<Fault>
+pub(crate) fn refusal(board: &Board, exited: &Exited, procs: u8, pid: Pid) -> Option<Fault>
     requires procs { board.now.procs ≡ procs }
     requires few { procs ≤ MOST_PROCS }
-    ensures { result ≡ refusal_of board.now gone.now pid }
+    ensures { result ≡ refusal_of board.now exited.now.gone pid }
 {
     if pid.0 >= procs {
         Some(Fault::NoProcess)
-    } else if has_gone(gone, pid.0) {
+    } else if exited.has(pid) {
         Some(Fault::Gone)
     } else if board.open(pid) {
         Some(Fault::Busy)

@@ -5,7 +5,7 @@ ghost use Rattle.hub_core.specs.Prelude.{AreOf, OnceLaw, head_of, is_of};
 ghost use Rattle.hub_core.specs.HubView.{terms_of};
 ghost use Rattle.hub_core.specs.RunsTo.{RunsTo, TellsOn, StopsAt, KeepsValues, ClosesForGood, RefusesRun, IsFullAt};
 
-use crate::machine_state::tells;
+use crate::admitted::tells;
 use crate::{Hub, OpenFault};
 use hub_base::{Edition, Entry, Event, Fault, What};
 use std::alloc::{AllocError, Global};
@@ -25,9 +25,9 @@ pub enum ListFault {
 
 /// Makes one step and appends what follows; a step that is not admitted is told as one fault.
 fn answer(hub: &mut Hub, events: &mut Vec<Event>, entry: &Entry) -> Result<(), Fault>
-    requires fits { is_of hub.old.hub.terms.head.edition entry.now.step ≡ true }
-    ensures ok { OnOk result (TellsOn hub.old.hub entry.now hub.new.hub events.old.items events.new.items) }
-    ensures err { IfErr result (λ f. StopsAt hub.old.hub entry.now f) }
+    requires fits { is_of hub.old.memory.hub.terms.head.edition entry.now.step ≡ true }
+    ensures ok { OnOk result (TellsOn hub.old.memory.hub entry.now hub.new.memory.hub events.old.items events.new.items) }
+    ensures err { IfErr result (λ f. StopsAt hub.old.memory.hub entry.now f) }
 {
     match hub.step(entry.copy()) {
         Ok(told) => match events.extend_from_slice(told.as_slice()) {
@@ -60,10 +60,10 @@ pub fn run(
     requires fits { AreOf edition entries.now }
 
     // The events are the definition's, and the journal holds the admitted entries.
-    ensures ok { IfOk result (λ r. RunsTo (terms_of edition procs limit) entries.now r.0.hub r.1.items) }
+    ensures ok { IfOk result (λ r. RunsTo (terms_of edition procs limit) entries.now r.0.memory.hub r.1.items) }
 
     // On each port the values received, then those buffered, are those sent, in order.
-    ensures received_then_buffered { IfOk result (λ r. KeepsValues (head_of edition procs) entries.now r.0.hub) }
+    ensures received_then_buffered { IfOk result (λ r. KeepsValues (head_of edition procs) entries.now r.0.memory.hub) }
 
     // Each admitted call completes at most one of its cases, once.
     ensures at_most_one_case { OnOk result (OnceLaw (head_of edition procs) entries.now) }

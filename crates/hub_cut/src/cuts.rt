@@ -12,7 +12,7 @@ ghost use Rattle.hub_cut.specs.ChapterText.{most_line};
 ghost use Rattle.hub_cut.specs.Cut.{CutsAndSteps, HasHeard, IsCut, Refused};
 
 use crate::limits::CHECKPOINT_BYTES;
-use crate::renewals::{make_step_heard, renewed};
+use crate::renewals::{renewed, step_admitted_heard};
 use hub_base::{EntryRef, Fault, Hears, Journal, NoMemory};
 use hub_core::ShortHub;
 use std::alloc::Global;
@@ -70,7 +70,7 @@ fn renewed_after<E: Hears>(
     ensures silent { OnErr result (events.new ≡ events.old) }
 {
     let mut next = renewed(alloc, hub)?;
-    make_step_heard(&mut next, entry, events)?;
+    step_admitted_heard(&mut next, entry, events)?;
     Ok(next)
 }
 

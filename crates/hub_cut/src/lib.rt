@@ -19,5 +19,5 @@ pub use checkpoints::checkpoint_of;
 pub use cuts::{cut, cut_journal};
 pub use limits::MOST_KEEP;
 pub use recorder::Recorder;
-pub use renewals::{hub_after, make_step};
+pub use renewals::{hub_after, step_admitted};
 pub use totals::Totals;

@@ -24,7 +24,7 @@ use crate::limits::CHAPTER_BYTES;
 use crate::texts::most_line;
 use crate::totals::{PORT_PLACES, add_received, base_of, no_bases, with_base};
 use hub_base::{Edition, EntryRef, Fault, Hears, MOST_STEPS, NoMemory, Port, StepRef};
-use hub_core::{Hub, OpenFault, ShortHub};
+use hub_core::{OpenFault, ShortHub};
 use std::alloc::Global;
 use std::marker::Model;
 
@@ -87,10 +87,10 @@ impl Recorder {
         ensures early { IfOk result (λ r. r.early ≡ false) }
         ensures err { IfErr result (λ f. RefusesOpening (terms_of edition procs MOST_STEPS) f) }
     {
-        let hub = Hub::open(alloc, procs, MOST_STEPS, edition)?;
+        let hub = ShortHub::open(alloc, procs, MOST_STEPS, edition)?;
         Ok(Recorder {
             alloc,
-            hub: hub.shortened(),
+            hub,
             before: None,
             keep,
             fresh: 0,

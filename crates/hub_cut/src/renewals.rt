@@ -12,7 +12,7 @@ ghost use Rattle.hub_base.specs.Text.{Fits, steps_of};
 ghost use Rattle.hub_laws.specs.Journals.{IsLegal};
 ghost use Rattle.hub_core.specs.Follows.{IsMake};
 ghost use Rattle.hub_base.specs.declared.limits.TheConstants.{MOST_EVENTS};
-ghost use Rattle.hub_core.specs.HubView.{Grows, HasRoom, HasSpare, IsLimit, StepRules, Steps, StepsHeard, opened_hub, state_of};
+ghost use Rattle.hub_core.specs.HubView.{Grows, HasRoom, HasSpare, IsLimit, Steps, StepsHeard, opened_hub, state_of};
 ghost use Rattle.hub_chapters.specs.Checkpoint.{call_again, checkpoint, exited, ports_again};
 ghost use Rattle.hub_cut.specs.Cut.{CanMake, hub_with, renewed_hub, with_entries};
 
@@ -20,7 +20,7 @@ use crate::checkpoints::{write_calls, write_exits, write_port};
 use crate::limits::CHECKPOINT_BYTES;
 use crate::texts::all_fit;
 use hub_base::{Entry, EntryRef, Events, Fault, Hears, MOST_PORTS, NoMemory, Port};
-use hub_core::{Hub, OpenFault, ShortHub, Terms};
+use hub_core::{OpenFault, ShortHub, Terms};
 use std::alloc::Global;
 
 /// Opens a hub with these terms. It is refused only if an allocation fails.
@@ -29,8 +29,8 @@ fn opened(alloc: Global, terms: Terms) -> Result<ShortHub, NoMemory>
     requires limit { IsLimit terms.limit }
     ensures { IfOk result (λ h. h.memory.hub ≡ opened_hub terms) }
 {
-    match Hub::open(alloc, terms.head.procs, terms.limit, terms.head.edition) {
-        Ok(hub) => Ok(hub.shortened()),
+    match ShortHub::open(alloc, terms.head.procs, terms.limit, terms.head.edition) {
+        Ok(hub) => Ok(hub),
         Err(OpenFault::NoMemory) => Err(NoMemory),
         Err(OpenFault::BadProcs | OpenFault::BadLimit) => unreachable!(),
     }
@@ -38,7 +38,7 @@ fn opened(alloc: Global, terms: Terms) -> Result<ShortHub, NoMemory>
 
 /// Makes a step of a process that is admitted, in a journal that has room. Its events replace those that were there; after a
 /// refusal there are none. It is refused only if an allocation fails.
-pub fn make_step(
+pub fn step_admitted(
     hub: &mut ShortHub,
     entry: &EntryRef<'_>,
     events: &mut Events,
@@ -52,11 +52,11 @@ pub fn make_step(
     ensures unchanged { OnErr result (hub.new.memory.hub ≡ hub.old.memory.hub) }
 {
     events.clear();
-    make_step_heard(hub, entry, events)
+    step_admitted_heard(hub, entry, events)
 }
 
 /// The same, and its events are heard by whoever has room for those of any step. After a refusal none was.
-pub(crate) fn make_step_heard<E: Hears>(
+pub(crate) fn step_admitted_heard<E: Hears>(
     hub: &mut ShortHub,
     entry: &EntryRef<'_>,
     events: &mut E,
@@ -88,7 +88,7 @@ fn make_all(hub: &mut ShortHub, entries: &[Entry]) -> Result<(), NoMemory>
     all_fit(hub.head().edition, entries);
     let mut events = Events::new();
     for entry in entries {
-        make_step(hub, &entry.by_slice(), &mut events)?;
+        step_admitted(hub, &entry.by_slice(), &mut events)?;
     }
     Ok(())
 }

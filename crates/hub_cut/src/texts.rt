@@ -4,8 +4,8 @@ ghost use Rattle.std.specs.Prelude.{◌≡◌, ◌≤◌, true};
 ghost use Rattle.std.specs.List.{AllByRecursion};
 ghost use Rattle.hub_base.specs.Head.{AreOf, is_of};
 ghost use Rattle.hub_base.specs.Lines.{line};
-ghost use Rattle.hub_base.specs.Text.{Fits, one_step};
-ghost use Rattle.hub_cut.specs.ChapterText.{counted, most_line};
+ghost use Rattle.hub_base.specs.Text.{Fits};
+ghost use Rattle.hub_cut.specs.ChapterText.{most_line};
 
 use crate::limits::{CASE_BYTES, LINE_BYTES, MOST_LINE_BYTES};
 use hub_base::{Edition, Entry, EntryRef};

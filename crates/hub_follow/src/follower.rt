@@ -131,9 +131,9 @@ impl Follower {
 
     /// This hub, at which nothing has happened, follows the journal of that one.
     fn of(hub: Hub, given: ShortHub, after: AfterDivergence) -> Follower
-        requires anew { hub.hub ≡ opened_hub given.memory.hub.terms }
+        requires anew { hub.memory.hub ≡ opened_hub given.memory.hub.terms }
         requires few { length given.memory.hub.journal ≤ MOST_BYTES }
-        ensures locked { result.locked ≡ none_waits hub.hub }
+        ensures locked { result.locked ≡ none_waits hub.memory.hub }
         ensures given { result.given ≡ given.memory.hub.journal }
         ensures after { result.after ≡ after }
         ensures none { result.diverged ≡ None }

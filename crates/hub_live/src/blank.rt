@@ -80,7 +80,7 @@ fn seats_of(alloc: Global, table: &HubTable, procs: u8) -> Result<Vec<Seat>, All
 
 /// What threads share beside the hub, put around it, and a seat for each process, in order.
 fn blank_over(alloc: Global, hub: Hub, terms: Terms) -> Result<(Blank, Vec<Seat>), AllocError>
-    requires hub { hub.hub ≡ opened_hub terms }
+    requires hub { hub.memory.hub ≡ opened_hub terms }
     requires bounds { IsHead terms.head × IsLimit terms.limit }
     ensures hub { IfOk result (λ r. r.0.locked ≡ none_waits (opened_hub terms)) }
     ensures terms { IfOk result (λ r. r.0.name.terms ≡ terms) }

@@ -4,9 +4,9 @@
 //! A step joins the caller's seat to the hub's before the journal changes and parts it afterwards,
 //! since a store is judged by what the seat that stores knows.
 
-ghost use Rattle.std.specs.Prelude.{◌≡◌, ◌≤◌, ◌<◌, ◌+◌, ◌↔◌, IsTrue, ◌++◌, ◌∷◌, [], List, length, Some, None, Ok, true, false, IfOk, IfSome, IfNone, OnSome, All};
+ghost use Rattle.std.specs.Prelude.{◌≡◌, ◌≤◌, ◌<◌, ◌↔◌, IsTrue, length, Some, None, Ok, true, IfOk, IfSome, IfNone, OnSome, All};
 ghost use Rattle.std.specs.Result.{result_and};
-ghost use Rattle.hub_live.specs.Prelude.{AreOf, is_of, IsPrefix, Entry, steps_of, IsLegal, number_of, port_changed_by, state_of, mark_at};
+ghost use Rattle.hub_live.specs.Prelude.{AreOf, is_of, IsPrefix, steps_of, IsLegal, number_of, port_changed_by, state_of, mark_at};
 ghost use Rattle.hub_live.specs.Prelude.{answer_for, without_answer, IsReplyTo, IsHistory, IsFree, own_of, IsDesk};
 ghost use Rattle.hub_live.specs.Prelude.{ServesSeat, StandsIn};
 

@@ -32,6 +32,13 @@ const LONGEST_PAUSE: u32 = 6_400;
 /// How often a thread tries again before it sleeps: for some 80 microseconds.
 const TRIES: u32 = 30;
 
+/// Whether a call waits on, by the answer to its step.
+fn waits(answer: &Event) -> bool
+    ensures { result ≡ is_parked answer.now.what }
+{
+    answer.what.is_parked()
+}
+
 /// A hub that threads share. Each seat that is passed to it must come from its own `Blank::open`.
 #[derive(Drop)]
 pub struct LiveHub<K: HubName> {
@@ -90,7 +97,7 @@ impl<K: HubName> LiveHub<K> {
     /// Makes a step of the seat's process, and waits where it parks. The entry is passed by reference: what is passed by value is
     /// copied in pieces of another size than those in which it was just stored, and a processor waits for such a copy. The seat comes
     /// last, since the entry is made of it.
-    fn ask<R: Wait>(&self, rt: &R, entry: &EntryRef<'_>, seat: &mut Seat) -> Result<Event, Fault>
+    fn step<R: Wait>(&self, rt: &R, entry: &EntryRef<'_>, seat: &mut Seat) -> Result<Event, Fault>
         requires hub { seat.old.hub ≡ K.name }
         requires pid { entry.now.pid ≡ seat.old.pid }
         requires fits { is_of K.name.terms.head.edition entry.now.step ≡ true }
@@ -120,7 +127,7 @@ impl<K: HubName> LiveHub<K> {
         ensures ended { HasEnded K.name seat.old seat.new result }
         ensures answer { is_parked (mutex_guard_value desk.entry).last.what ≡ false → result ≡ (mutex_guard_value desk.entry).last }
     {
-        if desk.answer().what.is_parked() {
+        if waits(desk.answer()) {
             return self.wait_for_answer(rt, desk, seat);
         }
         let answer = *desk.answer();
@@ -221,7 +228,7 @@ impl<K: HubName> LiveHub<K> {
             default,
             word,
         };
-        self.ask(rt, &entry_of(seat, step), seat)
+        self.step(rt, &entry_of(seat, step), seat)
     }
 
     /// Makes a call of this one case, without default and with word 0.
@@ -237,7 +244,7 @@ impl<K: HubName> LiveHub<K> {
             default: false,
             word: 0,
         };
-        self.ask(rt, &entry_of(seat, step), seat)
+        self.step(rt, &entry_of(seat, step), seat)
     }
 
     /// Sends the value, as a call of this one case without default, and waits until it is sent. Answered
@@ -298,7 +305,7 @@ impl<K: HubName> LiveHub<K> {
         ensures answer { IfOk result (λ x. Answers seat.old.pid (Make cap) x) }
         ensures err { IfErr result (λ f. Refused seat.old seat.new (Make cap) f) }
     {
-        self.ask(rt, &entry_of(seat, Step::Make(cap)), seat)
+        self.step(rt, &entry_of(seat, Step::Make(cap)), seat)
     }
 
     /// Makes a channel as `make` does, and gives it. Err: with no entry made by what refuses a make, and
@@ -331,7 +338,7 @@ impl<K: HubName> LiveHub<K> {
         ensures answer { IfOk result (λ x. Answers seat.old.pid (Close sender.now) x) }
         ensures err { IfErr result (λ f. Refused seat.old seat.new (Close sender.now) f) }
     {
-        self.ask(rt, &entry_of(seat, Step::Close(sender.port())), seat)
+        self.step(rt, &entry_of(seat, Step::Close(sender.port())), seat)
     }
 
     /// Ends the process. Answered `Done`; its later steps are refused by `Gone`. It takes the lock and
@@ -347,7 +354,7 @@ impl<K: HubName> LiveHub<K> {
         ensures answer { IfOk result (λ x. Answers seat.old.pid Exit x) }
         ensures err { IfErr result (λ f. Refused seat.old seat.new Exit f) }
     {
-        self.ask(rt, &entry_of(seat, Step::Exit), seat)
+        self.step(rt, &entry_of(seat, Step::Exit), seat)
     }
 
     /// Cancels the open call of another process: it ends with `Cancelled`, no value moves, and no port
@@ -364,7 +371,7 @@ impl<K: HubName> LiveHub<K> {
         ensures answer { IfOk result (λ x. Answers seat.old.pid (Cancel pid) x) }
         ensures err { IfErr result (λ f. Refused seat.old seat.new (Cancel pid) f) }
     {
-        self.ask(rt, &entry_of(seat, Step::Cancel(pid)), seat)
+        self.step(rt, &entry_of(seat, Step::Cancel(pid)), seat)
     }
 
     /// The counts of a port in the journal that the seat has then seen: by at most one load, with no

@@ -41,7 +41,7 @@ impl Locked {
     /// A hub with no answer waiting. It takes no memory.
     #[tactic(auto, using(crate::proofs::Locks::lawful_none))]
     pub fn of(hub: Hub) -> Locked
-        ensures { result ≡ none_waits hub.hub }
+        ensures { result ≡ none_waits hub.memory.hub }
     {
         // That its journal is legal is told where the journal is shown.
         let _journal = hub.entries();

@@ -1,10 +1,10 @@
 //! The words that threads share, and the steps that seats make on them.
 
-ghost use Rattle.std.specs.Prelude.{◌≡◌, ◌<◌, ◌≤◌, ◌+◌, [], ◌∷◌, ◌++◌, Some, None, IsSome, IfOk};
+ghost use Rattle.std.specs.Prelude.{◌≡◌, ◌<◌, ◌≤◌, ◌+◌, [], IsSome, IfOk};
 ghost use Rattle.hub_live.specs.Rule.{word_count};
 ghost use Rattle.hub_live.specs.Moves.{IsNext, numbered};
 ghost use Rattle.hub_live.specs.Named.{IsTableOf, IsNewTable};
-ghost use Rattle.hub_live.specs.Prelude.{mark, blank, next_word, SeesBoth, Met, grown, with_joined, parted, given_back, IsToken, IsSingle};
+ghost use Rattle.hub_live.specs.Prelude.{mark, blank, SeesBoth, Met, grown, with_joined, parted, given_back, IsToken, IsSingle};
 
 use crate::name::HubName;
 use crate::rule::{

@@ -2,7 +2,7 @@
 
 ghost use Rattle.std.specs.Prelude.{◌≡◌, ◌≤◌, ◌++◌, OnOk};
 ghost use Rattle.hub_page.specs.Known.{entries_of, procs_of, told_of};
-ghost use Rattle.hub_page.specs.Sketch.{IsSketch, is_idle, is_still, lane_counts, lane_words, lanes_words, part_words, port_counts, port_of};
+ghost use Rattle.hub_page.specs.Sketch.{IsSketch, lane_counts, lane_words, lanes_words, part_words, port_counts};
 ghost use Rattle.hub_page.specs.Sketch.{port_words, ports_words, since, sketch_words};
 
 use crate::block::Block;

@@ -1,8 +1,8 @@
 //! Values on their way: the arrows of a drawing.
 
-ghost use Rattle.std.specs.Prelude.{◌≡◌, ◌<◌, ◌≤◌, ◌+◌, ◌++◌, ◌∷◌, [], drop, filter, length, map, IfNone, IfOk, IfSome, OnOk, Some};
+ghost use Rattle.std.specs.Prelude.{◌≡◌, ◌<◌, ◌≤◌, ◌+◌, ◌++◌, ◌∷◌, [], drop, IfNone, IfOk, IfSome, OnOk, Some};
 ghost use Rattle.hub_base.specs.Values.{got_on, sent_on};
-ghost use Rattle.hub_picture.specs.Drawings.{all_arrows, arrow_on, arrows_on, crosses, makes_port, ports_of};
+ghost use Rattle.hub_picture.specs.Drawings.{all_arrows, arrows_on, crosses, makes_port, ports_of};
 ghost use Rattle.hub_story.specs.Passing.{moved_by, passages, sends};
 
 use crate::Window;

@@ -3,7 +3,7 @@
 
 ghost use Rattle.std.specs.Prelude.{◌≡◌, ◌++◌, OnErr, OnOk};
 ghost use Rattle.hub_picture.specs.Pieces.{Appends};
-ghost use Rattle.hub_picture.specs.Svg.Page.{bands_of, bands_to, foot_text, svg_text, top_text};
+ghost use Rattle.hub_picture.specs.Svg.Page.{svg_text};
 
 mod arrows;
 mod bands;

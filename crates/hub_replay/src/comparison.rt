@@ -1,6 +1,6 @@
 //! Bytes that are compared with a text which comes in pieces.
 
-ghost use Rattle.std.specs.Prelude.{◌≡◌, ◌≢◌, ◌≤◌, ◌<◌, ◌-◌, ◌^◌, ◌++◌, ℕ, List, [], length, take};
+ghost use Rattle.std.specs.Prelude.{◌≡◌, ◌≤◌, ◌<◌, ◌-◌, ◌^◌, ◌++◌, ℕ, List, [], length, take};
 ghost use Rattle.hub_replay.specs.Comparing.{Agrees, Tells};
 ghost use Rattle.hub_replay.specs.Verify.{common_beginning, newlines_in};
 

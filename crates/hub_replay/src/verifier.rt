@@ -3,7 +3,7 @@
 //! They are compared as the journal's steps are made, and no whole event text is made: one buffer holds the
 //! lines of some steps at a time.
 
-ghost use Rattle.std.specs.Prelude.{◌≡◌, IfOk, IfErr};
+ghost use Rattle.std.specs.Prelude.{IfOk, IfErr};
 ghost use Rattle.hub_replay.specs.Replay.{HasNone};
 ghost use Rattle.hub_replay.specs.Verify.{Compares};
 

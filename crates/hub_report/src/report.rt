@@ -1,7 +1,7 @@
 //! The report of a journal: what each port carried, how many calls stalled, and how many faults
 //! were told.
 
-ghost use Rattle.std.specs.Prelude.{◌≡◌, ◌≤◌, IfOk};
+ghost use Rattle.std.specs.Prelude.{◌≤◌, IfOk};
 ghost use Rattle.hub_report.specs.Prelude.{IsHead, IsLegal, IsReportOf, steps_of};
 
 use crate::replayed::replay;

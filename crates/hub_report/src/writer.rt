@@ -1,7 +1,7 @@
 //! Writing a report. A private function that is refused may leave a part behind, which the public
 //! one takes back.
 
-ghost use Rattle.std.specs.Prelude.{◌≡◌, ◌++◌, ◌+◌, ◌<◌, ℕ, List, take, OnOk, OnErr, if◌then◌else◌};
+ghost use Rattle.std.specs.Prelude.{◌≡◌, ◌++◌, ◌+◌, ◌<◌, ℕ, List, OnOk, OnErr, if◌then◌else◌};
 ghost use Rattle.hub_report.specs.ReportText.{field, ending, port_line, port_lines, count_line, report_text};
 
 mod short;

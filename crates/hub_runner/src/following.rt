@@ -1,7 +1,5 @@
 //! What each thread of a run does: its process follows its script.
 
-ghost use Rattle.std.specs.Prelude.{◌≡◌};
-
 use crate::gate::Gate;
 use crate::worker::follow;
 use hub_base::Fault;

@@ -1,6 +1,6 @@
 //! Hears lines as they come, and says the events of their entries.
 
-ghost use Rattle.std.specs.Prelude.{◌≡◌, ◌+◌, ◌++◌, List, ℕ, [], length, OnOk, OnErr, IsErrOf};
+ghost use Rattle.std.specs.Prelude.{◌≡◌, ◌+◌, [], length, OnOk, OnErr, IsErrOf};
 ghost use Rattle.hub_base.specs.declared.limits.TheConstants.{MOST_BYTES};
 ghost use Rattle.hub_base.specs.declared.read_fault.TextFault.{TextFault};
 ghost use Rattle.hub_replay.specs.Devices.{Failed};

@@ -1,6 +1,6 @@
 //! What is read of a hub: its ports, and the texts of its journals, a piece at a time.
 
-ghost use Rattle.std.specs.Prelude.{◌≡◌, ◌++◌, [], Some, IfOk, OnErr, OnOk, length, option_map};
+ghost use Rattle.std.specs.Prelude.{◌≡◌, ◌++◌, Some, IfOk, OnErr, OnOk, length, option_map};
 ghost use Rattle.hub_base.specs.Head.{head_of};
 ghost use Rattle.hub_base.specs.Reading.{head_lines};
 ghost use Rattle.hub_cut.specs.Recorder.{hub_in, journal_of};

@@ -1,6 +1,6 @@
 //! Things that are kept by the port that they are of, so that those of one are at hand without a look at all.
 
-ghost use Rattle.std.specs.Prelude.{◌≡◌, ◌++◌, ◌∷◌, [], IfOk, OnOk};
+ghost use Rattle.std.specs.Prelude.{◌≡◌, ◌++◌, [], IfOk, OnOk};
 ghost use Rattle.hub_base.specs.declared.value.Port.{Port};
 ghost use Rattle.hub_story.specs.OfPorts.{one_of, things_on};
 

@@ -1,6 +1,6 @@
 //! How each entry ended, and who waits.
 
-ghost use Rattle.std.specs.Prelude.{◌≡◌, IfOk, length};
+ghost use Rattle.std.specs.Prelude.{◌≡◌, IfOk};
 ghost use Rattle.std.specs.List.{filter};
 ghost use Rattle.hub_story.specs.Ends.{AreEndPlaces, AreEnds, waits_by_place, with_end, with_end_place};
 ghost use Rattle.hub_story.specs.Waiting.{is_stalled_by, stalled_by};

@@ -1,6 +1,6 @@
 //! To which entry the value of an entry went, or from which it came.
 
-ghost use Rattle.std.specs.Prelude.{◌≡◌, ◌∷◌, [], IfOk, OnOk, length};
+ghost use Rattle.std.specs.Prelude.{◌≡◌, IfOk, length};
 ghost use Rattle.std.specs.List.{fold};
 ghost use Rattle.hub_story_text.specs.Partners.{AreIn, is_made, ports_made, ways, with_way};
 ghost use Rattle.hub_story_text.specs.PortMoves.{AreMoves, paired};

@@ -1,6 +1,6 @@
 //! Rounds of random calls in 64 threads, each compared with the replay of its journal.
 
-ghost use Rattle.std.specs.Prelude.{◌≡◌, All, IfOk, OnOk};
+ghost use Rattle.std.specs.Prelude.{◌≡◌, All, OnOk};
 ghost use Rattle.hub_base.specs.Head.{AreOf};
 ghost use Rattle.hub_trials.specs.Answers.{answers_to};
 

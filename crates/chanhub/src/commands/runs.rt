@@ -1,6 +1,6 @@
 //! `chanhub run [FILE] [--journal]`.
 
-ghost use Rattle.std.specs.Prelude.{◌≡◌, ◌≤◌, ℕ, List, IfOk, IfErr, IsErrOf, IsSome, IsNone};
+ghost use Rattle.std.specs.Prelude.{◌≡◌, ℕ, List, IfOk, IfErr, IsErrOf, IsSome, IsNone};
 ghost use Rattle.std.specs.Io.KnownBytes.{Appends};
 ghost use Rattle.hub_base.specs.Head.{AreOf, IsHead};
 ghost use Rattle.hub_replay.specs.Devices.{Failed, AppendsBeginning};

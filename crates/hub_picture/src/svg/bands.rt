@@ -4,7 +4,7 @@
 //! that few bands show is looked at few times, however many bands there are.
 #![tactic(auto, using(crate::proofs::Appended::refused, crate::proofs::Appended::three))]
 
-ghost use Rattle.std.specs.Prelude.{◌≡◌, ◌≤◌, ◌<◌, ◌++◌, OnOk};
+ghost use Rattle.std.specs.Prelude.{◌<◌};
 ghost use Rattle.hub_picture.specs.Frames.{steps_between};
 ghost use Rattle.hub_picture.specs.Pieces.{Appends, nows};
 ghost use Rattle.hub_picture.specs.Svg.Page.{back_text, band_text, bands_of, bands_to, below_text, front_text, scale_of};

@@ -1,6 +1,6 @@
 //! What stands behind the shapes of a band.
 
-ghost use Rattle.std.specs.Prelude.{◌≡◌, ◌<◌, ◌+◌, ◌^◌, ◌-◌};
+ghost use Rattle.std.specs.Prelude.{◌<◌, ◌+◌, ◌-◌};
 ghost use Rattle.hub_picture.specs.Pieces.{Appends};
 ghost use Rattle.hub_picture.specs.Svg.Lanes.{lane_in, lane_text, tick_in, tick_text, ticks_to};
 

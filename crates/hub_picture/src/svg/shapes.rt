@@ -1,6 +1,6 @@
 //! The shapes of a drawing that some bands show.
 
-ghost use Rattle.std.specs.Prelude.{◌≡◌, ◌++◌, IfOk, List, Bool, filter};
+ghost use Rattle.std.specs.Prelude.{◌≡◌, IfOk, Bool, filter};
 ghost use Rattle.hub_picture.specs.Drawings.{is_shown};
 ghost use Rattle.hub_picture.specs.Levels.{shows_level};
 ghost use Rattle.hub_picture.specs.Pieces.{nows};

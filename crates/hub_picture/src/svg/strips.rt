@@ -1,6 +1,6 @@
 //! The strips of ports, and their levels.
 
-ghost use Rattle.std.specs.Prelude.{◌≡◌, ◌≤◌};
+ghost use Rattle.std.specs.Prelude.{◌≡◌};
 ghost use Rattle.hub_picture.specs.Pieces.{Appends};
 ghost use Rattle.hub_picture.specs.Svg.Strips.{count_of, drawn_level, height, level_in, level_opening, level_rect, level_text};
 ghost use Rattle.hub_picture.specs.Svg.Strips.{level_title, stay_in, stay_text, strip_body, strip_text, strip_title};

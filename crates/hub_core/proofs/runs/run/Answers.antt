@@ -10,34 +10,34 @@ use Rattle.hub_core.proofs.runs.run.Goals as goal
 pub answer-requires : goal.answer-requires
 answer-requires c = record {
   fits = next_fits (terms_of c.args.edition c.args.procs c.args.limit) c.args.entries.now c.loop-index.index c.index-entries-index.result _ _ c.requires.fits
-      (so_far (terms_of c.args.edition c.args.procs c.args.limit) c.in-Ok.hub.hub _ _ _ _ c.in-Ok.ensures.ok c.loop-index.invariant)
+      (so_far (terms_of c.args.edition c.args.procs c.args.limit) c.in-Ok.hub.memory.hub _ _ _ _ c.in-Ok.ensures.ok c.loop-index.invariant)
       (slice_get_read c.args.entries.now _ c.loop-index.index c.index-entries-index.result refl (omega arith) c.index-entries-index.is);
 }
 
 pub loop-index-preserved : goal.loop-index-preserved
 loop-index-preserved c =
-    run_on c.in-Ok.hub.hub.terms c.args.entries.now c.loop-index.index c.index-entries-index.result _ _ _ _ c.loop-index.invariant
+    run_on c.in-Ok.hub.memory.hub.terms c.args.entries.now c.loop-index.index c.index-entries-index.result _ _ _ _ c.loop-index.invariant
     (slice_get_read c.args.entries.now _ c.loop-index.index c.index-entries-index.result refl (omega arith) c.index-entries-index.is)
     c.in-Ok-answer.ensures.ok
 
 pub returns-in-Err-answer-clause-refused : goal.returns-in-Err-answer-clause-refused
 returns-in-Err-answer-clause-refused c =
     refuses_at (terms_of c.args.edition c.args.procs c.args.limit) c.args.entries.now c.loop-index.index c.index-entries-index.result _ _
-    c.in-Err-answer.fault (so_far (terms_of c.args.edition c.args.procs c.args.limit) c.in-Ok.hub.hub _ _ _ _ c.in-Ok.ensures.ok c.loop-index.invariant)
+    c.in-Err-answer.fault (so_far (terms_of c.args.edition c.args.procs c.args.limit) c.in-Ok.hub.memory.hub _ _ _ _ c.in-Ok.ensures.ok c.loop-index.invariant)
     (slice_get_read c.args.entries.now _ c.loop-index.index c.index-entries-index.result refl (omega arith) c.index-entries-index.is)
     c.in-Err-answer.ensures.err
 
 pub returns-clause-ok : goal.returns-clause-ok
 returns-clause-ok c =
     run_whole (terms_of c.args.edition c.args.procs c.args.limit) c.args.entries.now c.loop-index.index _ _
-    (so_far (terms_of c.args.edition c.args.procs c.args.limit) c.in-Ok.hub.hub _ _ _ _ c.in-Ok.ensures.ok c.loop-index.invariant)
+    (so_far (terms_of c.args.edition c.args.procs c.args.limit) c.in-Ok.hub.memory.hub _ _ _ _ c.in-Ok.ensures.ok c.loop-index.invariant)
     (omega arith)
 
 pub returns-clause-received_then_buffered : goal.returns-clause-received_then_buffered
 returns-clause-received_then_buffered c =
     values_kept (terms_of c.args.edition c.args.procs c.args.limit) c.args.entries.now _ _
     (run_whole (terms_of c.args.edition c.args.procs c.args.limit) c.args.entries.now c.loop-index.index _ _
-    (so_far (terms_of c.args.edition c.args.procs c.args.limit) c.in-Ok.hub.hub _ _ _ _ c.in-Ok.ensures.ok c.loop-index.invariant)
+    (so_far (terms_of c.args.edition c.args.procs c.args.limit) c.in-Ok.hub.memory.hub _ _ _ _ c.in-Ok.ensures.ok c.loop-index.invariant)
     (omega arith))
 
 pub returns-clause-at_most_one_case : goal.returns-clause-at_most_one_case
@@ -49,5 +49,5 @@ returns-clause-after_close c = λ before pid port later is. after_close-law (hea
 pub returns-clause-never_full : goal.returns-clause-never_full
 returns-clause-never_full c =
     never_full (terms_of c.args.edition c.args.procs c.args.limit) c.args.entries.now c.loop-index.index _ _
-    (so_far (terms_of c.args.edition c.args.procs c.args.limit) c.in-Ok.hub.hub _ _ _ _ c.in-Ok.ensures.ok c.loop-index.invariant)
+    (so_far (terms_of c.args.edition c.args.procs c.args.limit) c.in-Ok.hub.memory.hub _ _ _ _ c.in-Ok.ensures.ok c.loop-index.invariant)
     (omega arith)

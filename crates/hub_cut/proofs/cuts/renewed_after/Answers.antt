@@ -10,8 +10,8 @@ use Rattle.hub_cut.proofs.Cutting.{few_behind, steps_behind, admitted_behind}
 use Rattle.hub_cut.proofs.ChapterTexts.{longer_by}
 use Rattle.hub_cut.proofs.cuts.renewed_after.Goals as goal
 
-pub make_step_heard-requires : goal.make_step_heard-requires
-make_step_heard-requires g c =
+pub step_admitted_heard-requires : goal.step_admitted_heard-requires
+step_admitted_heard-requires g c =
     let old = c.args.hub.now.memory.hub in
     let cut = subst (IsCut old) (sym c.in_ok-next.ensures.hub) (cut_law old) in
     record {
@@ -25,19 +25,19 @@ pub returns-clause-ok : goal.returns-clause-ok
 returns-clause-ok g c =
     let old = c.args.hub.now.memory.hub in
     let cut = subst (IsCut old) (sym c.in_ok-next.ensures.hub) (cut_law old) in
-    let next = c.in_ok-make_step_heard.ensures.ok in
+    let next = c.in_ok-step_admitted_heard.ensures.ok in
     record {
       told = next.told;
       heard = next.heard;
-      holds = steps_behind old c.in_ok-next.next.memory.hub c.make_step_heard.new.hub.memory.hub c.args.entry.now next.told cut next.steps;
+      holds = steps_behind old c.in_ok-next.next.memory.hub c.step_admitted_heard.new.hub.memory.hub c.args.entry.now next.told cut next.steps;
     }
 
 pub returns-clause-lines : goal.returns-clause-lines
 returns-clause-lines g c =
     let old = c.args.hub.now.memory.hub in
     let cut = subst (IsCut old) (sym c.in_ok-next.ensures.hub) (cut_law old) in
-    let next = c.in_ok-make_step_heard.ensures.ok in
-    let steps = steps_behind old c.in_ok-next.next.memory.hub c.make_step_heard.new.hub.memory.hub c.args.entry.now next.told cut next.steps in
+    let next = c.in_ok-step_admitted_heard.ensures.ok in
+    let steps = steps_behind old c.in_ok-next.next.memory.hub c.step_admitted_heard.new.hub.memory.hub c.args.entry.now next.told cut next.steps in
     omega (
       arith,
       ap (λ j. length (flat_map line j)) steps.journal,

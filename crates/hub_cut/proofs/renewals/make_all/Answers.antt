@@ -7,8 +7,8 @@ use Rattle.hub_cut.proofs.Parts.{all_at}
 use Rattle.hub_cut.proofs.Renewing.{admitted_behind_at, one_more_made, room_behind_at}
 use Rattle.hub_cut.proofs.renewals.make_all.Goals as goal
 
-pub make_step-requires : goal.make_step-requires
-make_step-requires c =
+pub step_admitted-requires : goal.step_admitted-requires
+step_admitted-requires c =
     let base = c.args.hub.now.memory.hub in
     let es = c.args.entries.now in
     let i = c.loop-entry.entry-index in
@@ -24,6 +24,6 @@ make_step-requires c =
 
 pub loop-entry-preserved : goal.loop-entry-preserved
 loop-entry-preserved c =
-    one_more_made c.args.hub.now.memory.hub c.loop-entry.hub.memory.hub c.make_step.new.hub.memory.hub c.args.entries.now c.loop-entry.entry-index
-    c.entry-item.result c.make_step.new.events.items c.requires.can.places c.loop-entry-test.true c.entry-item.is c.loop-entry.invariant
-    (rw c.by_slice.ensures at c.in_ok-make_step.ensures.ok)
+    one_more_made c.args.hub.now.memory.hub c.loop-entry.hub.memory.hub c.step_admitted.new.hub.memory.hub c.args.entries.now c.loop-entry.entry-index
+    c.entry-item.result c.step_admitted.new.events.items c.requires.can.places c.loop-entry-test.true c.entry-item.is c.loop-entry.invariant
+    (rw c.by_slice.ensures at c.in_ok-step_admitted.ensures.ok)

@@ -1,19 +1,14 @@
-use Rattle.std.proofs.Common.{◌∙◌, ◌∷◌, [], sym, subst, arith, Result, Ok, Err}
+use Rattle.std.proofs.Common.{◌∷◌, [], sym, subst, arith, Result, Ok, Err}
 use Rattle.std.specs.Prelude.{OnOk}
 use Rattle.hub_base.specs.declared.event.Event.{Event}
 use Rattle.hub_base.specs.declared.event.What.TheVariants as what
-use Rattle.hub_base.specs.Runs.{state}
 use Rattle.hub_base.specs.Steps.{tells}
-use Rattle.hub_core.specs.Follows.{Follows}
-use Rattle.hub_core.proofs.Stalls.{refusal_of-as}
 use Rattle.hub_core.proofs.Following.{follows_refused}
 use Rattle.hub_core.proofs.machine.Machine.step_into.Goals as goal
 
 pub returns-in-Some-clause-ok : goal.returns-in-Some-clause-ok
 returns-in-Some-clause-ok g c = λ head es h.
-    let here = subst (Follows head es) (sym c.self.view_is) h in
-    let is = sym (refusal_of-as (state head es) _ c.args.entry.now.pid here.matches) ∙ sym c.in-Some.ensures in
-    let refused = follows_refused head es c.args.entry.now c.args.self.now c.in-Some.fault h is in
+    let refused = follows_refused head es c.args.entry.now c.args.self.now c.in-Some.fault h (sym (c.in-Some.ensures.run head es h)) in
     record {
       told = tells c.args.entry.now.pid (what.Fault c.in-Some.fault) ∷ [];
       heard = subst (λ (e : Event). g.E.Hears.heard c.args.events.now (e ∷ []) c.hear.new.self) c.tells.ensures c.hear.ensures.heard;

@@ -1,13 +1,11 @@
-use Rattle.std.proofs.Common.{◌≡◌, ◌∙◌, [], ap, refl, arith}
-use Rattle.hub_base.specs.declared.limits.TheConstants.{MOST_STEPS}
-use Rattle.hub_core.specs.HubView.{HubInMemory, HubView, opened_hub, terms_of}
+use Rattle.std.proofs.Common.{[], ap, refl, arith}
+use Rattle.hub_core.specs.HubView.{HubView}
 use Rattle.hub_chapters.specs.Chapters.Chapters.{First}
 use Rattle.hub_cut.proofs.recorder.Recorder.open.Goals as goal
 
 pub invariant_of-result : goal.invariant_of-result
 invariant_of-result c =
-    let same : c.shortened.result.memory.hub ≡ opened_hub (terms_of c.args.edition c.args.procs MOST_STEPS) =
-    ap (λ (m : HubInMemory). m.hub) c.shortened.ensures ∙ c.in_ok-hub.ensures.ok in
+    let same = c.in_ok-hub.ensures.ok in
     record {
       head = rw same c.in_ok-hub.ensures.bounds.0;
       limit = ap (λ (h : HubView). h.terms.limit) same;

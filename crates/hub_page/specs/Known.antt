@@ -3,7 +3,7 @@ use Rattle.std.specs.Prelude.{ℕ, List, length}
 use Rattle.hub_base.specs.Entry.{Entry}
 use Rattle.hub_story.specs.declared.told.Told.{Told}
 use Rattle.hub_story.specs.Levels.{told_by}
-use Rattle.hub_story.specs.Stories.{IsShortStoryOf}
+use Rattle.hub_story.specs.Stories.{IsStoryOf}
 use Rattle.hub_story_text.specs.Partners.{AreIn, ways}
 use Rattle.hub_page.specs.declared.known.Known.{Known}
 use Rattle.hub_page.specs.ParkedCalls.{AreParked}
@@ -21,6 +21,6 @@ told_of k = k.story.now.told.items
 
 -- the story is the journal's own, the other entries are those of its passages, and the calls that wait are those when the window begins
 pub record IsKnown (k : Known) : Type 0 where
-  pub story : IsShortStoryOf k.journal.now k.story.now
+  pub story : IsStoryOf k.journal.now k.story.now
   pub partners : AreIn (ways (entries_of k) (told_of k)) (length (entries_of k)) k.partners.now
   pub waiting : AreParked (procs_of k) (told_by k.window.first (told_of k)) k.waiting.now

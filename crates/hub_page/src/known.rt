@@ -6,7 +6,7 @@ ghost use Rattle.hub_story_text.specs.Partners.{partner_of};
 
 use crate::parked_calls::ParkedCalls;
 use hub_core::ShortJournal;
-use hub_story::{ShortStory, Window};
+use hub_story::{Story, Window};
 
 /// A journal, its story, for each entry the other one of the passage in which it stands, and which steps are told.
 #[derive(Clone, Copy)]
@@ -14,7 +14,7 @@ pub(crate) struct Known<'a> {
     /// The journal.
     pub(crate) journal: &'a ShortJournal,
     /// Its story.
-    pub(crate) story: &'a ShortStory,
+    pub(crate) story: &'a Story,
     /// The other entries.
     pub(crate) partners: &'a [Option<u32>],
     /// The steps that are told, besides those without which they could not be understood.

@@ -7,7 +7,7 @@ ghost use Rattle.std.specs.Prelude.{◌≡◌, ◌≤◌, ◌<◌, ◌-◌, ◌^
 ghost use Rattle.std.specs.Io.KnownBytes.{Appends};
 ghost use Rattle.hub_base.specs.Head.{IsHead};
 ghost use Rattle.hub_replay.specs.Devices.{AppendsBeginning};
-ghost use Rattle.hub_story.specs.Stories.{IsShortStoryOf};
+ghost use Rattle.hub_story.specs.Stories.{IsStoryOf};
 ghost use Rattle.hub_story_text.specs.StoryText.{story_text};
 ghost use Rattle.hub_page.specs.Data.{whole_blocks};
 ghost use Rattle.hub_page.specs.Faults.{Fails};
@@ -26,7 +26,7 @@ use crate::writing::{room, write_text};
 use hub_base::NoMemory;
 use hub_core::ShortJournal;
 use hub_replay::Sink;
-use hub_story::{ShortStory, Window};
+use hub_story::{Story, Window};
 use hub_story_text::{MOST_BLOCK, PackedText, all_partners, push_story};
 use std::alloc::Global;
 
@@ -38,8 +38,8 @@ fn no_steps() -> Window
 }
 
 /// The end of the story, which has no line of a step.
-fn end_of(alloc: Global, journal: &ShortJournal, story: &ShortStory) -> Result<PackedText, NoMemory>
-    requires story { IsShortStoryOf journal.now story.now }
+fn end_of(alloc: Global, journal: &ShortJournal, story: &Story) -> Result<PackedText, NoMemory>
+    requires story { IsStoryOf journal.now story.now }
     requires few { length journal.now.entries < 2 ^ 32 - 1 }
     ensures { IfOk result (λ text. text.items ≡ story_text no_steps journal.now.head journal.now.entries story.now.told.items) }
 {
@@ -84,11 +84,11 @@ fn write_known<W: Sink>(
 pub fn write_page<W: Sink>(
     alloc: Global,
     journal: &ShortJournal,
-    story: &ShortStory,
+    story: &Story,
     window: Window,
     output: &mut W,
 ) -> Result<(), PageFault>
-    requires story { IsShortStoryOf journal.now story.now }
+    requires story { IsStoryOf journal.now story.now }
     requires head { IsHead journal.now.head }
     requires few { length journal.now.entries < 2 ^ 32 - 1 }
     ensures whole { OnOk result (Appends (W.contents output.old) (W.contents output.new)

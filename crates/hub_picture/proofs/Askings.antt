@@ -1,28 +1,24 @@
 -- The entries that are shown, one after the other.
 use Rattle.std.proofs.Common.{◌≡◌, ◌≤◌, ◌<◌, ◌+◌, ◌∙◌, ℕ, Bool, true, false, cond, List, [], ◌∷◌, ◌++◌, length, drop, get_or, filter}
-use Rattle.std.proofs.Common.{ap, sym, add-one, append-nil, append_assoc, Option, Some, None, slice_get}
-use Rattle.std.specs.Prelude.{slice_index_or}
+use Rattle.std.proofs.Common.{ap, sym, add-one, append-nil, append_assoc, Some, slice_get}
 use Rattle.std.proofs.Math.Seq.{drop-cons}
 use Rattle.std.proofs.lemmas.List.{drop_all}
 use Rattle.std.proofs.lemmas.Option.{get_or_from_slice_get}
 use Rattle.hub_base.specs.declared.entry.Step.TheVariants.{Exit}
 use Rattle.hub_base.specs.Entry.{Entry}
 use Rattle.hub_story.specs.declared.story.Story.{Story}
-use Rattle.hub_story.specs.declared.told.Told.{Told}
+use Rattle.hub_story.specs.Ends.{ended_at}
 use Rattle.hub_story.specs.declared.window.Window.{Window}
 use Rattle.hub_picture.specs.declared.asked.Asked.{Asked}
 use Rattle.hub_picture.specs.declared.asked.Shown.{Shown}
-use Rattle.hub_picture.specs.Drawings.{asked, is_shown, shows}
+use Rattle.hub_picture.specs.Drawings.{asked, ended_by, is_shown, shows}
 
 -- those from a place on
 abbrev pub shown_from : Shown → Window → Story → List Entry → ℕ → List Asked
 shown_from shown w s es i = filter (is_shown shown w) (asked s i (drop i es))
 
--- how the entry at a place ended
-abbrev pub ended_at : Story → ℕ → Option Told
-ended_at s i = slice_index_or s.ends.items i None
-
-next : (shown : Shown) (w : Window) (s : Story) (es : List Entry) (i : ℕ) (d : Entry) (b : Bool) → i < length es → b ≡ shows shown w i (ended_at s i) →
+next : (shown : Shown) (w : Window) (s : Story) (es : List Entry) (i : ℕ) (d : Entry) (b : Bool) → i < length es →
+    b ≡ shows shown w i (ended_by (ended_at s i)) →
     shown_from shown w s es i
     ≡ cond b (record { place = i; entry = get_or es i d; ended = ended_at s i } ∷ shown_from shown w s es (i + 1)) (shown_from shown w s es (i + 1))
 next shown w s es i d b below is =
@@ -33,7 +29,7 @@ next shown w s es i d b below is =
 
 -- the entry at the place is shown, and it is not
 pub shown-next : (shown : Shown) (w : Window) (s : Story) (es : List Entry) (i : ℕ) (e : Entry) (old new all : List Asked) → i < length es →
-    true ≡ shows shown w i (ended_at s i) → slice_get es i ≡ Some e → old ++ shown_from shown w s es i ≡ all →
+    true ≡ shows shown w i (ended_by (ended_at s i)) → slice_get es i ≡ Some e → old ++ shown_from shown w s es i ≡ all →
     new ≡ old ++ record { place = i; entry = e; ended = ended_at s i } ∷ [] → new ++ shown_from shown w s es (i + 1) ≡ all
 shown-next shown w s es i e old new all below shows-it at so is =
     let one : Asked = record { place = i; entry = e; ended = ended_at s i } in
@@ -42,7 +38,7 @@ shown-next shown w s es i e old new all below shows-it at so is =
     ∙ ap (λ l. old ++ l) (sym (next shown w s es i e true below shows-it)) ∙ so
 
 pub hidden-next : (shown : Shown) (w : Window) (s : Story) (es : List Entry) (i : ℕ) (old all : List Asked) → i < length es →
-    false ≡ shows shown w i (ended_at s i) → old ++ shown_from shown w s es i ≡ all → old ++ shown_from shown w s es (i + 1) ≡ all
+    false ≡ shows shown w i (ended_by (ended_at s i)) → old ++ shown_from shown w s es i ≡ all → old ++ shown_from shown w s es (i + 1) ≡ all
 hidden-next shown w s es i old all below hides-it so =
     ap (λ l. old ++ l) (sym (next shown w s es i (record { pid = record { 0 = 0 }; step = Exit }) false below hides-it)) ∙ so
 

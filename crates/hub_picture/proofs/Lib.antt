@@ -6,7 +6,9 @@ mod Exits
 mod Halves
 mod Lasts
 mod OtherPorts
+mod Places
 mod Ports
+mod Rows
 pub mod Titles
 mod Signs
 mod Kept

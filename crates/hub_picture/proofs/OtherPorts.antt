@@ -1,9 +1,8 @@
 -- What is told of other ports counts for nothing on this one.
-use Rattle.std.proofs.Common.{◌≡◌, ◌<◌, ◌+◌, ◌∙◌, ◌&&◌, ℕ, append-nil, get_or, length, take, Bool, true, false}
-use Rattle.std.proofs.Common.{cond, List, [], ◌∷◌, ◌++◌, filter, refl, ap, sym, Option, None, Some, slice_get, arith, nat_le}
+use Rattle.std.proofs.Common.{◌≡◌, ◌∙◌, ◌&&◌, ℕ, Bool, true, false}
+use Rattle.std.proofs.Common.{cond, List, [], ◌∷◌, filter, refl, ap, sym, Option, None, Some, slice_get, arith, nat_le}
 use Rattle.std.specs.List.{filter_map}
 use Rattle.std.specs.Option.{option_map}
-use Rattle.std.proofs.lemmas.List.Elements.{filter_more}
 use Rattle.hub_base.specs.declared.value.Port.{Port}
 use Rattle.hub_base.specs.declared.value.Value.{Value}
 use Rattle.hub_base.specs.declared.case.Case.{Case}
@@ -17,13 +16,12 @@ use Rattle.hub_base.specs.Values.{of_what, sent_on, got_on}
 use Rattle.hub_story.specs.declared.levels.Level.{Level}
 use Rattle.hub_story.specs.declared.told.Told.{Told}
 use Rattle.hub_story.specs.declared.window.Window.{Window}
-use Rattle.hub_story.specs.OfPorts.{one_of}
 use Rattle.hub_story.specs.Passing.{beside, cases_at, moved_by, passages, receives, sends}
 use Rattle.hub_picture.specs.declared.strips.Strip.{Strip}
 use Rattle.hub_picture.specs.declared.waiters.Side.{Side}
 use Rattle.hub_picture.specs.declared.waiters.Side.TheVariants.{Sends, Receives}
 use Rattle.hub_picture.specs.Levels.{after, empty, is_same, levels_from, levels_on, shows_level}
-use Rattle.hub_picture.specs.Moves.{fired_port, is_port, is_told_on, port_of, port_told}
+use Rattle.hub_picture.specs.Moves.{fired_port, is_port, is_told_on, port_of}
 use Rattle.hub_picture.specs.Waiters.{last_on, last_that, later, passed_until}
 
 no-send : (p : Port) (c : Option Case) (o : Outcome) → is_port p (option_map port_of c) ≡ false → sent_on p c o ≡ None
@@ -134,18 +132,3 @@ pub same-last : (side : Side) (es : List Entry) (all : List Told) (p : Port) (st
     last_on side es (filter (is_told_on es p) all) p step ≡ last_on side es all p step
 same-last side es all p step =
     last-kept (passed_until side es p step) (is_told_on es p) None all (λ t other. not-passed side es p step t other)
-
--- ---- what is told of a port, one thing more
-pub told-next : (es : List Entry) (all : List Told) (p : Port) (i : ℕ) (d : Told) (old new : List Told) → i < length all →
-    old ≡ filter (is_told_on es p) (take i all) → new ≡ old ++ filter (is_told_on es p) (get_or all i d ∷ []) →
-    new ≡ filter (is_told_on es p) (take (i + 1) all)
-told-next es all p i d old new below so is =
-    is ∙ ap (λ l. l ++ filter (is_told_on es p) (get_or all i d ∷ [])) so ∙ sym (filter_more (is_told_on es p) all i d below)
-
--- what is told of no port
-pub told-none : (es : List Entry) (q : Port) (t : Told) (old : List Told) → port_told es t ≡ None → old ≡ old ++ filter (is_told_on es q) (t ∷ [])
-told-none es q t old none = sym (ap (λ o. old ++ cond (is_port q o) (t ∷ []) []) none ∙ append-nil old)
-
--- and of this one
-pub told-one : (es : List Entry) (q p : Port) (t : Told) → port_told es t ≡ Some p → one_of p q t ≡ filter (is_told_on es q) (t ∷ [])
-told-one es q p t is = sym (ap (λ o. cond (is_port q o) (t ∷ []) []) is)

@@ -1,6 +1,6 @@
 -- What is drawn of a journal, in processes and steps. Colours, lengths and texts are no part of it.
 use Rattle.std.specs.Prelude.{◌≡◌, ℕ, zero, suc, ◌+◌, min, Bool, true, false, ◌&&◌, List, [], ◌∷◌, ◌++◌, filter, map, length}
-use Rattle.std.specs.Prelude.{Option, None, Some, slice_index_or}
+use Rattle.std.specs.Prelude.{Option, None, Some}
 use Rattle.hub_base.specs.declared.value.Port.{Port}
 use Rattle.hub_base.specs.Entry.{Entry}
 use Rattle.hub_base.specs.declared.limits.TheConstants.{MOST_PORTS}
@@ -10,6 +10,7 @@ use Rattle.hub_base.specs.Journal.{JournalView}
 use Rattle.hub_story.specs.declared.told.Told.{Told}
 use Rattle.hub_story.specs.declared.moved.Passage.{Passage}
 use Rattle.hub_story.specs.declared.story.Story.{Story}
+use Rattle.hub_story.specs.Ends.{ended_at}
 use Rattle.hub_story.specs.Passing.{passages}
 use Rattle.hub_story.specs.Waiting.{is_stalled}
 use Rattle.hub_story.specs.declared.window.Window.{Window}
@@ -28,24 +29,21 @@ use Rattle.hub_story.specs.Windows.{goes_on, has, touches, within}
 abbrev pub asked : Story → ℕ → List Entry → List Asked
 asked s place [] = []
 asked s place (e ∷ es) =
-    record { place = place; entry = e; ended = slice_index_or s.ends.items place None } ∷ asked s (place + 1) es
+    record { place = place; entry = e; ended = ended_at s place } ∷ asked s (place + 1) es
 
 -- by which step it ended
 abbrev pub ended_by : Option Told → Option ℕ
 ended_by None = None
 ended_by (Some end) = Some end.by
 
--- a call that was asked at this place waits in the window: until a later step ended it, or still
-abbrev pub waits_in : Window → ℕ → Option Told → Bool
-waits_in w place ended = goes_on w place (ended_by ended)
-
--- the window shows an entry by a box where it has its step, and by a bar where it waits there
-abbrev pub shows : Shown → Window → ℕ → Option Told → Bool
-shows Boxes w place ended = has w place
-shows Bars w place ended = waits_in w place ended
+-- the window shows an entry by a box where it has its step, and by a bar where it waits there: until a later step ended it,
+-- or still
+abbrev pub shows : Shown → Window → ℕ → Option ℕ → Bool
+shows Boxes w place until = has w place
+shows Bars w place until = goes_on w place until
 
 abbrev pub is_shown : Shown → Window → Asked → Bool
-is_shown shown w a = shows shown w a.place a.ended
+is_shown shown w a = shows shown w a.place (ended_by a.ended)
 
 -- ---- what passed
 abbrev pub is_made : What → Bool

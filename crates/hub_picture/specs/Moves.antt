@@ -1,5 +1,6 @@
 -- On which port each thing that is told may have moved a value.
-use Rattle.std.specs.Prelude.{◌==◌, Bool, false, List, Option, None, Some, slice_get}
+use Rattle.std.specs.Prelude.{◌≡◌, ℕ, ◌==◌, Bool, false, List, [], ◌∷◌, map, Option, None, Some, slice_get, if◌then◌else◌}
+use Rattle.std.specs.List.{filter_map}
 use Rattle.std.specs.Option.{option_map}
 use Rattle.hub_base.specs.declared.value.Port.{Port}
 use Rattle.hub_base.specs.declared.case.Case.{Case}
@@ -30,3 +31,15 @@ is_port p (Some q) = q.0 == p.0
 -- it is told of a case of this port
 abbrev pub is_told_on : List Entry → Port → Told → Bool
 is_told_on es p t = is_port p (port_told es t)
+
+-- its place, where it is
+abbrev pub place_on : List Entry → Port → Told → ℕ → List ℕ
+place_on es p t place = if is_told_on es p t then place ∷ [] else []
+
+-- what is told at these places
+abbrev pub all_at : List Told → List ℕ → List Told
+all_at all places = filter_map (slice_get all) places
+
+-- at these places of all stand these things, each at its own
+abbrev pub StandAt : List Told → List ℕ → List Told → Type 0
+StandAt all places these = map (slice_get all) places ≡ map Some these

@@ -8,11 +8,12 @@ use Rattle.hub_story.specs.declared.told.Told.{Told}
 use Rattle.hub_story.specs.Told.{told, end_of}
 use Rattle.hub_story.specs.declared.window.Window.{Window}
 use Rattle.hub_picture.specs.declared.arrows.Arrow.{Arrow}
+use Rattle.hub_picture.specs.declared.asked.Shown.TheVariants.{Bars}
 use Rattle.hub_picture.specs.declared.frame.Frame.{Frame}
 use Rattle.hub_picture.specs.declared.frame.Scale.TheVariants.{Wide, Dense}
 use Rattle.hub_picture.specs.declared.label.Label.TheVariants.{Send}
 use Rattle.hub_story.specs.Windows.{within}
-use Rattle.hub_picture.specs.Drawings.{waits_in, all_arrows, stalls_in}
+use Rattle.hub_picture.specs.Drawings.{ended_by, shows, all_arrows, stalls_in}
 use Rattle.hub_picture.specs.Frames.{x_of, y_of}
 use Rattle.hub_picture.specs.Labels.{label_text, class_text}
 use Rattle.hub_picture.specs.Svg.Arrows.{side_of, arrow_body}
@@ -43,13 +44,13 @@ arrows_row = refl
 pub window_row : ends (all_arrows (steps 4 5) through_a_buffer all_told) ≡ (3, 4) ∷ []
 window_row = refl
 
-pub wait_row : waits_in (steps 3 4) 2 (end_of all_told 2) ≡ true
+pub wait_row : shows Bars (steps 3 4) 2 (ended_by (end_of all_told 2)) ≡ true
 wait_row = refl
 
-pub no_wait_row : waits_in (steps 0 5) 1 (end_of all_told 1) ≡ false
+pub no_wait_row : shows Bars (steps 0 5) 1 (ended_by (end_of all_told 1)) ≡ false
 no_wait_row = refl
 
-pub open_row : waits_in (steps 8 9) 2 None ≡ true
+pub open_row : shows Bars (steps 8 9) 2 None ≡ true
 open_row = refl
 
 -- ---- both who are left are stalled by the exit at place 3, and so outside of the first three steps nobody is

@@ -6,7 +6,7 @@ ghost use Rattle.hub_picture.specs.Drawings.{all_arrows, arrows_on, crosses, mak
 ghost use Rattle.hub_story.specs.Passing.{moved_by, passages, sends};
 
 use crate::Window;
-use crate::moves::Moves;
+use crate::moves::{Moves, OnPort};
 use hub_base::{Case, MOST_PORTS, Outcome, Port, Value, What};
 use hub_core::ShortEntries;
 use hub_story::{Moved, Passage, Told};
@@ -101,13 +101,13 @@ struct Sent {
 }
 
 /// The next send on the port that is told from this place on.
-fn next_sent(entries: &ShortEntries, port: Port, told: &[Told], from: usize) -> Option<Sent>
+fn next_sent(entries: &ShortEntries, port: Port, told: &OnPort<'_>, from: usize) -> Option<Sent>
     ensures found { IfSome result (λ sent. sends entries.now (drop from told.now) port
         ≡ sent.moved ∷ sends entries.now (drop sent.behind told.now) port) }
     ensures none { IfNone result (sends entries.now (drop from told.now) port ≡ []) }
 {
     for place in from..told.len() {
-        if let Some(moved) = sent_by(entries, port, &told[place]) {
+        if let Some(moved) = sent_by(entries, port, told.at(place)) {
             return Some(Sent {
                 moved,
                 behind: place + 1,
@@ -138,14 +138,14 @@ fn add_arrows(
     window: Window,
     port: Port,
     entries: &ShortEntries,
-    told: &[Told],
+    told: &OnPort<'_>,
 ) -> Result<(), AllocError>
     ensures { OnOk result (
         arrows.new.items ≡ arrows.old.items ++ arrows_on window port (passages entries.now told.now port)) }
 {
     let mut from = 0;
-    for told_of in told {
-        if let Some(received) = got_by(entries, port, told_of) {
+    for place in 0..told.len() {
+        if let Some(received) = got_by(entries, port, told.at(place)) {
             let Some(sent) = next_sent(entries, port, told, from) else {
                 return Ok(());
             };
@@ -174,7 +174,7 @@ fn add_port(
     ensures { OnOk result (arrows.new.items ≡ arrows.old.items
         ++ arrows_on window port (passages moves.now.entries.now moves.now.told.now port)) }
 {
-    add_arrows(arrows, window, port, moves.entries, moves.on(port))?;
+    add_arrows(arrows, window, port, moves.entries, &moves.on(port))?;
     Ok(())
 }
 

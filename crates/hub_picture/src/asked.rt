@@ -1,7 +1,8 @@
 //! What was asked, and how it ended: the boxes and the bars of a drawing.
 
-ghost use Rattle.std.specs.Prelude.{◌≡◌, ◌<◌, ◌-◌, ◌^◌, None, IfOk, filter, length, slice_index_or};
+ghost use Rattle.std.specs.Prelude.{◌≡◌, ◌<◌, ◌-◌, ◌^◌, IfOk, filter, length};
 ghost use Rattle.hub_picture.specs.Drawings.{asked, ended_by, is_shown, shows};
+ghost use Rattle.hub_story.specs.Ends.{ended_at};
 
 use crate::Window;
 use hub_base::{Case, Entry};
@@ -29,16 +30,6 @@ pub(crate) enum Shown {
     Bars,
 }
 
-/// How the entry at this place ended, by the story.
-fn end_at(story: &Story, place: u32) -> Option<Told>
-    ensures { result ≡ slice_index_or story.now.ends.items place None }
-{
-    match story.ends.get(place as usize) {
-        Some(end) => *end,
-        None => None,
-    }
-}
-
 /// By which step it ended.
 pub(crate) fn ended_by(ended: Option<Told>) -> Option<u32>
     ensures { result ≡ ended_by ended }
@@ -49,13 +40,27 @@ pub(crate) fn ended_by(ended: Option<Told>) -> Option<u32>
     }
 }
 
-/// Whether an entry that ended so is shown.
-pub(crate) fn shows(shown: Shown, window: Window, place: u32, ended: Option<Told>) -> bool
-    ensures { result ≡ shows shown window place ended }
+/// The same of the entry at this place. What it was told stays where it is, since few entries of a long journal are
+/// shown.
+fn until_at(story: &Story, place: usize) -> Option<u32>
+    ensures { result ≡ ended_by (ended_at story.now place) }
+{
+    match story.ends.get(place) {
+        Some(Some(told)) => match story.told.get(*told as usize) {
+            Some(end) => Some(end.by),
+            None => None,
+        },
+        _ => None,
+    }
+}
+
+/// Whether an entry that a step ended, or that still waits, is shown.
+pub(crate) fn shows(shown: Shown, window: Window, place: u32, until: Option<u32>) -> bool
+    ensures { result ≡ shows shown window place until }
 {
     match shown {
         Shown::Boxes => window.has(place),
-        Shown::Bars => window.shows(place, ended_by(ended)),
+        Shown::Bars => window.shows(place, until),
     }
 }
 
@@ -75,12 +80,11 @@ pub(crate) fn asked_in(
     let mut one = Case::default();
     for number in 0..entries.len() {
         let place = number as u32;
-        let ended = end_at(story, place);
-        if shows(shown, window, place, ended) {
+        if shows(shown, window, place, until_at(story, number)) {
             all.push(Asked {
                 place,
                 entry: entries.entry(number, &mut one).to_owned(),
-                ended,
+                ended: story.end(number),
             })?;
         }
     }

@@ -2,9 +2,9 @@
 
 ghost use Rattle.std.specs.Prelude.{◌≡◌, ◌<◌, ◌≤◌, ◌+◌, ◌-◌, ◌^◌, ◌∷◌, ◌++◌, [], filter, IfOk, OnOk};
 ghost use Rattle.std.specs.List.{flat_map};
-ghost use Rattle.hub_picture.specs.Levels.{after, empty, holds_any, is_same, levels_on, rows_from, shows_level, with_case};
+ghost use Rattle.hub_picture.specs.Levels.{after, empty, is_same, levels_on, rows_from, shows_level, with_case};
 
-use crate::moves::Moves;
+use crate::moves::{Moves, OnPort};
 use crate::{Strip, Window};
 use hub_base::{Case, Outcome, Port, What};
 use hub_core::ShortEntries;
@@ -99,7 +99,7 @@ fn add_levels(
     levels: &mut Vec<Held>,
     window: Window,
     entries: &ShortEntries,
-    told: &[Told],
+    told: &OnPort<'_>,
     strip: Strip,
 ) -> Result<(), AllocError>
     ensures { OnOk result (
@@ -111,7 +111,8 @@ fn add_levels(
         until: None,
         level: empty(),
     };
-    for told in told {
+    for index in 0..told.len() {
+        let told = told.at(index);
         let next = after(entries, strip.port, held.level, told);
         if !is_same(held.level, next) {
             let until = Some(told.by);
@@ -123,56 +124,39 @@ fn add_levels(
     add_shown(levels, window, held)
 }
 
-/// Whether the port holds a value at a step of the window.
-fn holds_any(
-    alloc: Global,
-    window: Window,
-    moves: &Moves<'_>,
-    strip: Strip,
-) -> Result<bool, AllocError>
-    ensures { IfOk result (λ any.
-        any ≡ holds_any window moves.now.entries.now moves.now.told.now strip) }
-{
-    let mut levels = Vec::new(alloc);
-    let told = moves.on(strip.port);
-    add_levels(&mut levels, window, moves.entries, told, strip)?;
-    Ok(!levels.is_empty())
+/// The strips that are shown, and the levels on them.
+#[derive(Drop)]
+pub(crate) struct Levels {
+    /// Of the ports those that hold a value at a step of the window, a row each.
+    pub strips: Vec<Strip>,
+    /// What they held, strip by strip, oldest first.
+    pub held: Vec<Held>,
 }
 
-/// Those of these strips whose ports hold a value at a step of the window, a row each.
-pub(crate) fn shown_strips(
-    alloc: Global,
-    window: Window,
-    moves: &Moves<'_>,
-    strips: &[Strip],
-) -> Result<Vec<Strip>, AllocError>
-    ensures { IfOk result (λ all.
-        all.items ≡ rows_from window moves.now.entries.now moves.now.told.now 0 strips.now) }
-{
-    let mut all = Vec::new(alloc);
-    for strip in strips {
-        if holds_any(alloc, window, moves, *strip)? {
-            let row = all.len();
-            all.push(Strip { row, ..*strip })?;
-        }
-    }
-    Ok(all)
-}
-
-/// The levels of these ports, oldest first.
+/// Of these strips those whose ports hold a value at a step of the window, and the levels on them. What is told of a port
+/// is looked at once: a strip is shown where its port adds a level.
 pub(crate) fn levels_in(
     alloc: Global,
     window: Window,
     moves: &Moves<'_>,
-    strips: &[Strip],
-) -> Result<Vec<Held>, AllocError>
-    ensures { IfOk result (λ all.
-        all.items ≡ flat_map (levels_on window moves.now.entries.now moves.now.told.now) strips.now) }
+    made: &[Strip],
+) -> Result<Levels, AllocError>
+    ensures strips { IfOk result (λ all.
+        all.strips.items ≡ rows_from window moves.now.entries.now moves.now.told.now 0 made.now) }
+    ensures levels { IfOk result (λ all. all.held.items
+        ≡ flat_map (levels_on window moves.now.entries.now moves.now.told.now) all.strips.items) }
 {
-    let mut all = Vec::new(alloc);
-    for strip in strips {
+    let mut strips = Vec::new(alloc);
+    let mut held = Vec::new(alloc);
+    for one in made {
+        let row = strips.len();
+        let strip = Strip { row, ..*one };
+        let before = held.len();
         let told = moves.on(strip.port);
-        add_levels(&mut all, window, moves.entries, told, *strip)?;
+        add_levels(&mut held, window, moves.entries, &told, strip)?;
+        if held.len() > before {
+            strips.push(strip)?;
+        }
     }
-    Ok(all)
+    Ok(Levels { strips, held })
 }

@@ -1,14 +1,17 @@
 //! What is told of one port, without a look at every entry for each port.
+//!
+//! Only the places of what is told of a port are kept: the story of a long journal tells much, and holds it once.
 
-ghost use Rattle.std.specs.Prelude.{◌≡◌, ◌++◌, ◌∷◌, [], filter, IfOk, OnOk};
+ghost use Rattle.std.specs.Prelude.{◌≡◌, ◌<◌, ◌++◌, [], filter, length, slice_index_or, IfOk, OnOk};
 ghost use Rattle.hub_base.specs.declared.value.Port.{Port as PortNumber};
 ghost use Rattle.hub_story.specs.OfPorts.{things_on};
-ghost use Rattle.hub_picture.specs.Moves.{is_told_on, port_of, port_told};
+ghost use Rattle.hub_picture.specs.Moves.{StandAt, is_told_on, place_on, port_of, port_told};
 
 use hub_base::{Case, Port, What};
 use hub_core::ShortEntries;
 use hub_story::{ByPort, Told};
 use std::alloc::{AllocError, Global};
+use std::marker::Model;
 
 /// The port of a case.
 pub(crate) fn port_of(case: Case) -> Port
@@ -33,43 +36,95 @@ fn port_told(entries: &ShortEntries, told: &Told) -> Option<Port>
     }
 }
 
-/// Takes in what is told next, where it is told of a port.
-fn note(all: &mut ByPort<Told>, entries: &ShortEntries, told: &Told) -> Result<(), AllocError>
+/// Takes in the place of what is told next, where it is told of a port.
+fn note(
+    all: &mut ByPort<u32>,
+    entries: &ShortEntries,
+    told: &Told,
+    place: u32,
+) -> Result<(), AllocError>
     ensures { OnOk result ((q : PortNumber) → things_on all.new q
-        ≡ things_on all.old q ++ filter (is_told_on entries.now q) (told.now ∷ [])) }
+        ≡ things_on all.old q ++ place_on entries.now q told.now place) }
 {
     let Some(port) = port_told(entries, told) else {
         return Ok(());
     };
-    all.push(port, *told)?;
+    all.push(port, place)?;
     Ok(())
 }
 
-/// What is told of each port, in order.
-fn all_by_port(
+/// The places in `told` of what is told of each port, in order. So many events that their places do not fit find no
+/// memory.
+fn places_by_port(
     alloc: Global,
     entries: &ShortEntries,
     told: &[Told],
-) -> Result<ByPort<Told>, AllocError>
-    ensures { IfOk result (λ all. (q : PortNumber) → things_on all q ≡ filter (is_told_on entries.now q) told.now) }
+) -> Result<ByPort<u32>, AllocError>
+    ensures { IfOk result (λ all. (q : PortNumber) →
+        StandAt told.now (things_on all q) (filter (is_told_on entries.now q) told.now)) }
 {
+    if told.len() > u32::MAX as usize {
+        return Err(AllocError);
+    }
     let mut all = ByPort::new(alloc)?;
-    for told in told {
-        note(&mut all, entries, told)?;
+    for place in 0..told.len() {
+        note(&mut all, entries, &told[place], place as u32)?;
     }
     Ok(all)
 }
 
-/// What is told, and apart from it what is told of each port.
+/// What is told of a port, in order.
+#[derive(Drop)]
+pub(crate) struct OnPort<'a> {
+    /// All that is told.
+    told: &'a [Told],
+    /// The places there of what is told of the port.
+    places: &'a [u32],
+}
+
+impl<'a> Model for OnPort<'a> {
+    ghost use Rattle.std.specs.Prelude.{List};
+    ghost use Rattle.hub_story.specs.declared.told.Told.{Told};
+    ghost use Rattle.hub_picture.specs.Moves.{StandAt, all_at};
+
+    ghost Value = { List Told };
+
+    ghost view = { λ p. all_at p.told.now p.places.now };
+
+    ghost invariant = { λ p. StandAt p.told.now p.places.now (all_at p.told.now p.places.now) };
+}
+
+impl<'a> OnPort<'a> {
+    /// How much it is.
+    #[inline(always)]
+    pub fn len(&self) -> usize
+        ensures { result ≡ length self.now }
+    {
+        self.places.len()
+    }
+
+    /// The thing with this number, counted from 0.
+    #[inline(always)]
+    pub fn at(&self, index: usize) -> &'a Told
+        requires within { index < length self.now }
+        ensures { result.now ≡ slice_index_or self.now index result.now }
+    {
+        let places = self.places;
+        &self.told[places[index] as usize]
+    }
+}
+
+/// What is told, and apart from it the places of what is told of each port.
 #[derive(Drop)]
 pub(crate) struct Moves<'a> {
     /// The entries of the journal.
     pub entries: &'a ShortEntries,
     /// All that is told.
     pub told: &'a [Told],
-    /// What is told of each port, in order.
-    by_port: ByPort<Told>,
-    ghost each: { (q : PortNumber) → things_on by_port q ≡ filter (is_told_on entries.now q) told.now },
+    /// The places of what is told of each port, in order.
+    by_port: ByPort<u32>,
+    ghost each: { (q : PortNumber) →
+        StandAt told.now (things_on by_port q) (filter (is_told_on entries.now q) told.now) },
 }
 
 impl<'a> Moves<'a> {
@@ -85,7 +140,7 @@ impl<'a> Moves<'a> {
         ensures entries { IfOk result (λ moves. moves.entries.now ≡ entries.entry.now) }
         ensures told { IfOk result (λ moves. moves.told.now ≡ told.entry.now) }
     {
-        let by_port = all_by_port(alloc, entries, told)?;
+        let by_port = places_by_port(alloc, entries, told)?;
         Ok(Moves {
             entries,
             told,
@@ -94,9 +149,12 @@ impl<'a> Moves<'a> {
     }
 
     /// What is told of a port, in order.
-    pub fn on(&self, port: Port) -> &[Told]
-        ensures { result.now ≡ filter (is_told_on self.now.entries.now port) self.now.told.now }
+    pub fn on(&self, port: Port) -> OnPort<'_>
+        ensures { result ≡ filter (is_told_on self.now.entries.now port) self.now.told.now }
     {
-        self.by_port.on(port)
+        OnPort {
+            told: self.told,
+            places: self.by_port.on(port),
+        }
     }
 }

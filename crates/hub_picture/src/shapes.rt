@@ -3,30 +3,33 @@
 
 ghost use Rattle.std.specs.Prelude.{◌≡◌, ◌<◌, ◌-◌, ◌^◌, IfOk, OnOk, length};
 ghost use Rattle.hub_picture.specs.Drawings.{IsDrawingOf};
-ghost use Rattle.hub_picture.specs.Levels.{shown_strips};
+ghost use Rattle.hub_picture.specs.Levels.{all_levels, shown_strips};
 ghost use Rattle.hub_picture.specs.Shapes.{HasAsked, HasMoved};
 ghost use Rattle.hub_story.specs.Windows.{within};
 
+use crate::Window;
 use crate::arrows::arrows_in;
 use crate::asked::{Shown, asked_in};
 use crate::drawing::Drawing;
 use crate::lanes::lanes_of;
-use crate::levels::{levels_in, shown_strips};
+use crate::levels::{Levels, levels_in};
 use crate::moves::Moves;
 use crate::stalls::all_stalled;
 use crate::strips::strips_of;
 use crate::waiters::waiters_in;
-use crate::{Strip, Window};
 use hub_core::ShortJournal;
 use hub_story::{Story, Told};
 use std::alloc::{AllocError, Global};
 
-/// The strips that are shown.
-fn strips_in(alloc: Global, window: Window, moves: &Moves<'_>) -> Result<Vec<Strip>, AllocError>
-    ensures { IfOk result (λ all. all.items ≡ shown_strips window moves.now.entries.now moves.now.told.now) }
+/// The strips that are shown, and all levels.
+fn all_levels(alloc: Global, window: Window, moves: &Moves<'_>) -> Result<Levels, AllocError>
+    ensures strips { IfOk result (λ all.
+        all.strips.items ≡ shown_strips window moves.now.entries.now moves.now.told.now) }
+    ensures levels { IfOk result (λ all.
+        all.held.items ≡ all_levels window moves.now.entries.now moves.now.told.now) }
 {
     let made = strips_of(alloc, moves.entries, moves.told)?;
-    shown_strips(alloc, window, moves, &made)
+    levels_in(alloc, window, moves, &made)
 }
 
 /// Puts in what processes ask, and whom a step stalled.
@@ -60,9 +63,10 @@ fn put_moved(
     ensures { OnOk result (
         HasMoved moves.now.entries.now moves.now.told.now waiting.now window drawing.old drawing.new) }
 {
-    drawing.strips = strips_in(alloc, window, moves)?;
+    let Levels { strips, held } = all_levels(alloc, window, moves)?;
+    drawing.strips = strips;
+    drawing.levels = held;
     drawing.arrows = arrows_in(alloc, window, moves)?;
-    drawing.levels = levels_in(alloc, window, moves, &drawing.strips)?;
     drawing.waiters = waiters_in(alloc, window, moves, &drawing.stalls, waiting)?;
     Ok(())
 }

@@ -8,7 +8,7 @@ ghost use Rattle.hub_picture.specs.Waiters.{waiters_of, waits_for};
 
 use crate::Window;
 use crate::levels::{after, empty};
-use crate::moves::{Moves, port_of};
+use crate::moves::{Moves, OnPort, port_of};
 use hub_base::{Case, MOST_PORTS, Port};
 use hub_core::ShortEntries;
 use hub_story::{Level, Told};
@@ -61,11 +61,18 @@ fn later(so: bool, told: &Told, before: Option<Told>) -> Option<Told>
 }
 
 /// The last who let a value pass by this step.
-fn last_on(side: Side, entries: &ShortEntries, told: &[Told], port: Port, step: u32) -> Option<Told>
+fn last_on(
+    side: Side,
+    entries: &ShortEntries,
+    told: &OnPort<'_>,
+    port: Port,
+    step: u32,
+) -> Option<Told>
     ensures { result ≡ last_on side entries.now told.now port step }
 {
     let mut last = None;
-    for told in told {
+    for index in 0..told.len() {
+        let told = told.at(index);
         last = later(passed_until(side, entries, port, step, told), told, last);
     }
     last
@@ -81,7 +88,7 @@ struct Lasts {
 }
 
 /// Who was the last at a port by this step.
-fn lasts_on(entries: &ShortEntries, told: &[Told], step: u32, port: Port) -> Lasts
+fn lasts_on(entries: &ShortEntries, told: &OnPort<'_>, step: u32, port: Port) -> Lasts
     ensures { result ≡ lasts_on entries.now told.now step port }
 {
     Lasts {
@@ -102,7 +109,7 @@ fn all_lasts(alloc: Global, moves: &Moves<'_>, step: u32) -> Result<Vec<Lasts>, 
     for number in 0..PORT_NUMBERS {
         let port = Port(number);
         let told = moves.on(port);
-        all.push(lasts_on(moves.entries, told, step, port))?;
+        all.push(lasts_on(moves.entries, &told, step, port))?;
     }
     Ok(all)
 }
@@ -110,10 +117,8 @@ fn all_lasts(alloc: Global, moves: &Moves<'_>, step: u32) -> Result<Vec<Lasts>, 
 /// How things stand after a step.
 #[derive(Clone, Copy)]
 struct Standing<'a> {
-    /// The entries of the journal.
-    entries: &'a ShortEntries,
-    /// All that is told.
-    told: &'a [Told],
+    /// What is told.
+    moves: &'a Moves<'a>,
     /// The step.
     step: u32,
     /// Who was the last at each port by then.
@@ -122,21 +127,26 @@ struct Standing<'a> {
 
 /// Who was the last at a port by then. No hub has a port for which that is not at hand.
 fn lasts_at(standing: &Standing<'_>, port: Port) -> Lasts
-    requires lasts { AreLasts standing.now.entries.now standing.now.told.now standing.now.step standing.now.lasts.now }
-    ensures { result ≡ lasts_on standing.now.entries.now standing.now.told.now standing.now.step port }
+    requires lasts { let moves = standing.now.moves.now in
+        AreLasts moves.entries.now moves.told.now standing.now.step standing.now.lasts.now }
+    ensures { let moves = standing.now.moves.now in
+        result ≡ lasts_on moves.entries.now moves.told.now standing.now.step port }
 {
     let number = usize::from(port.0);
     if number < standing.lasts.len() {
         standing.lasts[number]
     } else {
-        lasts_on(standing.entries, standing.told, standing.step, port)
+        let moves = standing.moves;
+        lasts_on(moves.entries, &moves.on(port), standing.step, port)
     }
 }
 
 /// What a call waits for by a case of it.
 fn waits_for(standing: &Standing<'_>, call: &Told, case: Case) -> Waiter
-    requires lasts { AreLasts standing.now.entries.now standing.now.told.now standing.now.step standing.now.lasts.now }
-    ensures { result ≡ waits_for standing.now.entries.now standing.now.told.now standing.now.step call.now case }
+    requires lasts { let moves = standing.now.moves.now in
+        AreLasts moves.entries.now moves.told.now standing.now.step standing.now.lasts.now }
+    ensures { let moves = standing.now.moves.now in
+        result ≡ waits_for moves.entries.now moves.told.now standing.now.step call.now case }
 {
     let lasts = lasts_at(standing, port_of(case));
     Waiter {
@@ -154,9 +164,10 @@ fn add_cases(
     call: &Told,
     cases: &[Case],
 ) -> Result<(), AllocError>
-    requires lasts { AreLasts standing.now.entries.now standing.now.told.now standing.now.step standing.now.lasts.now }
-    ensures { OnOk result (all.new.items ≡ all.old.items
-        ++ map (waits_for standing.now.entries.now standing.now.told.now standing.now.step call.now) cases.now) }
+    requires lasts { let moves = standing.now.moves.now in
+        AreLasts moves.entries.now moves.told.now standing.now.step standing.now.lasts.now }
+    ensures { let moves = standing.now.moves.now in OnOk result (all.new.items ≡ all.old.items
+        ++ map (waits_for moves.entries.now moves.told.now standing.now.step call.now) cases.now) }
 {
     for case in cases {
         all.push(waits_for(standing, call, *case))?;
@@ -170,13 +181,17 @@ fn add_calls(
     standing: &Standing<'_>,
     calls: &[Told],
 ) -> Result<(), AllocError>
-    requires lasts { AreLasts standing.now.entries.now standing.now.told.now standing.now.step standing.now.lasts.now }
-    ensures { OnOk result (all.new.items ≡ all.old.items
-        ++ flat_map (waiters_of standing.now.entries.now standing.now.told.now standing.now.step) calls.now) }
+    requires lasts { let moves = standing.now.moves.now in
+        AreLasts moves.entries.now moves.told.now standing.now.step standing.now.lasts.now }
+    ensures { let moves = standing.now.moves.now in OnOk result (all.new.items ≡ all.old.items
+        ++ flat_map (waiters_of moves.entries.now moves.told.now standing.now.step) calls.now) }
 {
     let mut one = Case::default();
     for call in calls {
-        let cases = standing.entries.cases_at(call.asked as usize, &mut one);
+        let cases = standing
+            .moves
+            .entries
+            .cases_at(call.asked as usize, &mut one);
         add_cases(all, standing, call, cases)?;
     }
     Ok(())
@@ -198,8 +213,7 @@ fn add_waiters(
     }
     let lasts = all_lasts(alloc, moves, step)?;
     let standing = Standing {
-        entries: moves.entries,
-        told: moves.told,
+        moves,
         step,
         lasts: &lasts,
     };

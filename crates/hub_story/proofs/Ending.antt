@@ -23,69 +23,15 @@ use Rattle.hub_laws.specs.Replies.{is_parked}
 use Rattle.hub_story.specs.declared.told.Told.{Told}
 use Rattle.hub_story.specs.Told.{may_end, call_or, latest_asked, last_asked, tells_it, told_from, told, ends_it, end_of}
 use Rattle.hub_story.specs.Waiting.{still_waiting}
-use Rattle.hub_story.specs.Ends.{AreEndPlaces, AreEnds, told_at, waits_by_place, with_end, with_end_place}
+use Rattle.hub_story.specs.Ends.{AreEnds, told_at, waits_by_place, with_end}
 use Rattle.hub_story.proofs.InTime.{all-given, all-any, same-inside}
 use Rattle.hub_story.proofs.Tellings.{length-turns}
 
 -- ---- ends
--- of so many entries the ends that are told so far
-pub record EndsSoFar (all : List Told) (count : ℕ) (ends : List (Option Told)) : Type 0 where
-  pub length : length ends ≡ count
-  pub each : (place : ℕ) → place < count → slice_index_or ends place None ≡ end_of all place
-
 or-none : {A : Type 0} (o : Option A) → o ≡ option_or o None
 or-none None = refl
 or-none (Some x) = refl
 
-end-with : (ends : List (Option Told)) (t : Told) (place : ℕ) → place < length ends →
-    slice_index_or (with_end ends t) place None ≡ option_or (slice_index_or ends place None) (find (ends_it place) (t ∷ []))
-end-with ends t place below = by (t.asked == place) (is_parked t.event.what) (slice_index_or ends t.asked None) refl refl
-  where
-    by : (own parked : Bool) (o : Option Told) → own ≡ (t.asked == place) → o ≡ slice_index_or ends t.asked None →
-        slice_index_or (cond (parked || is_some o) ends (slice_set ends t.asked (Some t))) place None
-        ≡ option_or (slice_index_or ends place None) (cond (own && not parked) (Some t) None)
-    by false true o own is = or-none (slice_index_or ends place None)
-    by false false (Some x) own is = or-none (slice_index_or ends place None)
-    by false false None own is =
-        get_or-set_other ends t.asked place (Some t) None (λ e. eqb-false t.asked place (sym own) (sym e)) ∙ or-none (slice_index_or ends place None)
-    by true true o own is = or-none (slice_index_or ends place None)
-    by true false (Some x) own is =
-        let same : t.asked ≡ place = eqb-true t.asked place (sym own) in
-        let here : slice_index_or ends place None ≡ Some x = ap (λ k. slice_index_or ends k None) (sym same) ∙ sym is in
-        here ∙ ap (λ o. option_or o (Some t)) (sym here)
-    by true false None own is =
-        let same : t.asked ≡ place = eqb-true t.asked place (sym own) in
-        let here : slice_index_or ends place None ≡ None = ap (λ k. slice_index_or ends k None) (sym same) ∙ sym is in
-        ap (λ k. slice_index_or (slice_set ends k (Some t)) place None) same ∙ get_or-set_same ends place (Some t) None below
-        ∙ ap (λ o. option_or o (Some t)) (sym here)
-
-length-with_end : (ends : List (Option Told)) (t : Told) → length (with_end ends t) ≡ length ends
-length-with_end ends t = by (is_parked t.event.what || is_some (slice_index_or ends t.asked None))
-  where
-    by : (b : Bool) → length (cond b ends (slice_set ends t.asked (Some t))) ≡ length ends
-    by true = refl
-    by false = length-set ends t.asked (Some t)
-
-pub ends-next : (all : List Told) (i : ℕ) (d : Told) (count : ℕ) (ends new : List (Option Told)) → i < length all → EndsSoFar (take i all) count ends →
-    new ≡ with_end ends (get_or all i d) → EndsSoFar (take (i + 1) all) count new
-ends-next all i d count ends new below so made =
-    let t : Told = get_or all i d in
-    let grown : take (i + 1) all ≡ take i all ++ t ∷ [] = rw add-one (take-suc all i d below) in
-    rw (grown, made) (record {
-      length = length-with_end ends t ∙ so.length;
-      each = λ place few.
-          end-with ends t place (omega (arith, so.length)) ∙ ap (λ o. option_or o (find (ends_it place) (t ∷ []))) (so.each place few)
-          ∙ sym (find-append (ends_it place) (take i all) (t ∷ []));
-    })
-
-pub all-ends : (all : List Told) (count : ℕ) (ends : List (Option Told)) → EndsSoFar all count ends → AreEnds all count ends
-all-ends all count ends so =
-    record {
-      length = so.length;
-      each = λ place few. slice_get-get_or ends place None (omega (arith, so.length)) ∙ ap Some (so.each place few);
-    }
-
--- ---- ends by their places
 -- those that are told by the first events
 pub record PlacesSoFar (all : List Told) (i count : ℕ) (ends : List (Option ℕ)) : Type 0 where
   pub length : length ends ≡ count
@@ -94,7 +40,7 @@ pub record PlacesSoFar (all : List Told) (i count : ℕ) (ends : List (Option �
 
 place-with : (all : List Told) (i : ℕ) (t : Told) (ends : List (Option ℕ)) (place : ℕ) → i < length all → slice_get all i ≡ Some t →
     ((k : ℕ) → slice_index_or ends place None ≡ Some k → k < i) → place < length ends →
-    told_at all (slice_index_or (with_end_place ends i t) place None)
+    told_at all (slice_index_or (with_end ends i t) place None)
     ≡ option_or (told_at all (slice_index_or ends place None)) (find (ends_it place) (t ∷ []))
 place-with all i t ends place low at old below =
     by (t.asked == place) (is_parked t.event.what) (slice_index_or ends t.asked None) refl refl
@@ -130,7 +76,7 @@ set-below i (x ∷ ends) (suc a) old zero k is = old zero k is
 set-below i (x ∷ ends) (suc a) old (suc place) k is = set-below i ends a (λ p j h. old (suc p) j h) place k is
 
 below-with : (i : ℕ) (ends : List (Option ℕ)) (t : Told) → ((place k : ℕ) → slice_index_or ends place None ≡ Some k → k < i) →
-    (place k : ℕ) → slice_index_or (with_end_place ends i t) place None ≡ Some k → k < i + 1
+    (place k : ℕ) → slice_index_or (with_end ends i t) place None ≡ Some k → k < i + 1
 below-with i ends t old = by (is_parked t.event.what || is_some (slice_index_or ends t.asked None))
   where
     more : (place k : ℕ) → slice_index_or ends place None ≡ Some k → k < i + 1
@@ -140,7 +86,7 @@ below-with i ends t old = by (is_parked t.event.what || is_some (slice_index_or 
     by true place k h = more place k h
     by false place k h = set-below i ends t.asked more place k h
 
-length-with_place : (i : ℕ) (ends : List (Option ℕ)) (t : Told) → length (with_end_place ends i t) ≡ length ends
+length-with_place : (i : ℕ) (ends : List (Option ℕ)) (t : Told) → length (with_end ends i t) ≡ length ends
 length-with_place i ends t = by (is_parked t.event.what || is_some (slice_index_or ends t.asked None))
   where
     by : (b : Bool) → length (cond b ends (slice_set ends t.asked (Some i))) ≡ length ends
@@ -160,7 +106,7 @@ places-none all count ends is = rw is (record {
 })
 
 pub places-next : (all : List Told) (i : ℕ) (d : Told) (count : ℕ) (ends new : List (Option ℕ)) → i < length all → PlacesSoFar all i count ends →
-    new ≡ with_end_place ends i (get_or all i d) → PlacesSoFar all (i + 1) count new
+    new ≡ with_end ends i (get_or all i d) → PlacesSoFar all (i + 1) count new
 places-next all i d count ends new low so made =
     let t : Told = get_or all i d in
     let grown : take (i + 1) all ≡ take i all ++ t ∷ [] = rw add-one (take-suc all i d low) in
@@ -174,7 +120,7 @@ places-next all i d count ends new low so made =
     })
 
 pub all-places : (all : List Told) (i count : ℕ) (ends : List (Option ℕ)) → length all ≤ i → i ≤ length all → PlacesSoFar all i count ends →
-    AreEndPlaces all count ends
+    AreEnds all count ends
 all-places all i count ends done past so =
     record {
       length = so.length;
@@ -260,7 +206,7 @@ told-there all (Some k) within = by all k (within k refl)
     by (t ∷ ts) zero few = refl
     by (t ∷ ts) (suc k) few = by ts k (omega arith)
 
-pub waits-still : (all : List Told) (count : ℕ) (ends : List (Option ℕ)) → AreEndPlaces all count ends → AllByRecursion (λ t. t.asked < count) all →
+pub waits-still : (all : List Told) (count : ℕ) (ends : List (Option ℕ)) → AreEnds all count ends → AllByRecursion (λ t. t.asked < count) all →
     filter (waits_by_place ends) all ≡ still_waiting all
 waits-still all count ends are below =
     filter-agrees (λ t. t.asked < count) (waits_by_place ends) (λ t. is_parked t.event.what && not (is_some (end_of all t.asked)))

@@ -2,40 +2,15 @@
 
 ghost use Rattle.std.specs.Prelude.{◌≡◌, IfOk};
 ghost use Rattle.std.specs.List.{filter};
-ghost use Rattle.hub_story.specs.Ends.{AreEndPlaces, AreEnds, waits_by_place, with_end, with_end_place};
+ghost use Rattle.hub_story.specs.Ends.{AreEnds, waits_by_place, with_end};
 ghost use Rattle.hub_story.specs.Waiting.{is_stalled_by, stalled_by};
 
 use crate::Told;
 use std::alloc::{AllocError, Global};
 
-/// Takes in the next event. The first that is not `Parked` ends its entry.
-fn note_end(ends: &mut Vec<Option<Told>>, told: &Told)
-    ensures { ends.new.items ≡ with_end ends.old.items told.now }
-{
-    let place = told.asked as usize;
-    if !told.event.what.is_parked() && place < ends.len() && ends[place].is_none() {
-        ends[place] = Some(*told);
-    }
-}
-
-/// How each of so many entries ended, and by whose step; nothing while it waits.
-pub(crate) fn ends_of(
-    alloc: Global,
-    told: &[Told],
-    count: usize,
-) -> Result<Vec<Option<Told>>, AllocError>
-    ensures { IfOk result (λ ends. AreEnds told.now count ends.items) }
-{
-    let mut ends = vec![in alloc; None; count]?;
-    for told in told {
-        note_end(&mut ends, told);
-    }
-    Ok(ends)
-}
-
 /// Takes in the event at this place. The first that is not `Parked` ends its entry.
-fn note_end_place(ends: &mut Vec<Option<u32>>, place: u32, told: &Told)
-    ensures { ends.new.items ≡ with_end_place ends.old.items place told.now }
+fn note_end(ends: &mut Vec<Option<u32>>, place: u32, told: &Told)
+    ensures { ends.new.items ≡ with_end ends.old.items place told.now }
 {
     let asked = told.asked as usize;
     if !told.event.what.is_parked() && asked < ends.len() && ends[asked].is_none() {
@@ -45,19 +20,19 @@ fn note_end_place(ends: &mut Vec<Option<u32>>, place: u32, told: &Told)
 
 /// Where it is told how each of so many entries ended; nothing while it waits. So many events that their places do not
 /// fit find no memory.
-pub(crate) fn end_places_of(
+pub(crate) fn ends_of(
     alloc: Global,
     told: &[Told],
     count: usize,
 ) -> Result<Vec<Option<u32>>, AllocError>
-    ensures { IfOk result (λ ends. AreEndPlaces told.now count ends.items) }
+    ensures { IfOk result (λ ends. AreEnds told.now count ends.items) }
 {
     let mut ends = vec![in alloc; None; count]?;
     for (place, told) in told.iter().enumerate() {
         if place > u32::MAX as usize {
             return Err(AllocError);
         }
-        note_end_place(&mut ends, place as u32, told);
+        note_end(&mut ends, place as u32, told);
     }
     Ok(ends)
 }

@@ -12,7 +12,6 @@ mod laws;
 mod levels;
 mod moved;
 mod passing;
-mod short_story;
 mod story;
 mod telling;
 mod told;
@@ -26,7 +25,6 @@ pub use laws::{
 };
 pub use levels::Level;
 pub use moved::{Moved, Passage};
-pub use short_story::{ShortStory, short_story_of};
 pub use story::{Story, story_of};
 pub use told::Told;
 pub use window::Window;

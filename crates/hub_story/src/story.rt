@@ -2,28 +2,29 @@
 
 ghost use Rattle.std.specs.Prelude.{◌≡◌, ◌<◌, ◌-◌, ◌^◌, length, IfOk};
 ghost use Rattle.hub_base.specs.Head.{IsHead};
+ghost use Rattle.hub_story.specs.Ends.{ended_at};
 ghost use Rattle.hub_story.specs.Levels.{received_by, sent_by};
 ghost use Rattle.hub_story.specs.Passing.{passages};
 ghost use Rattle.hub_story.specs.Stories.{IsStoryOf};
 ghost use Rattle.hub_story.specs.Waiting.{stalled_by};
 
-use crate::ends::{ends_of, stalled_by};
+use crate::ends::{ends_of, stalled_by, waiting_of};
 use crate::levels::level_of;
 use crate::passing::passages_of;
-use crate::short_story::short_story_of;
-use crate::{Level, Passage, ShortStory, Told};
+use crate::telling::tell_all;
+use crate::{Level, Passage, Told};
 use hub_base::{Journal, NoMemory, Port};
 use hub_core::ShortJournal;
 use std::alloc::{AllocError, Global};
 
-/// What a journal tells.
+/// What a journal tells. How an entry ended is told once.
 #[derive(Drop)]
 pub struct Story {
     /// Each event, in order.
     pub told: Vec<Told>,
-    /// For each entry, in order, how it ended and by whose step: its answer, or what it was told after it waited.
-    /// `None` while it waits.
-    pub ends: Vec<Option<Told>>,
+    /// For each entry, in order, where in `told` it stands how it ended and by whose step: its answer, or what it was told
+    /// after it waited. `None` while it waits.
+    pub ends: Vec<Option<u32>>,
     /// The calls that wait in the end, by arrival.
     pub waiting: Vec<Told>,
 }
@@ -35,12 +36,9 @@ pub fn story_of(alloc: Global, journal: &ShortJournal) -> Result<Story, NoMemory
     requires few { length journal.now.entries < 2 ^ 32 - 1 }
     ensures { IfOk result (λ story. IsStoryOf journal.now story) }
 {
-    let ShortStory {
-        told,
-        ends: _,
-        waiting,
-    } = short_story_of(alloc, journal)?;
+    let told = tell_all(alloc, journal)?;
     let ends = ends_of(alloc, &told, journal.entries().len())?;
+    let waiting = waiting_of(alloc, &told, &ends)?;
     Ok(Story {
         told,
         ends,
@@ -49,6 +47,16 @@ pub fn story_of(alloc: Global, journal: &ShortJournal) -> Result<Story, NoMemory
 }
 
 impl Story {
+    /// How the entry at this place ended, and by whose step; nothing while it waits, and behind the last.
+    pub fn end(&self, place: usize) -> Option<Told>
+        ensures { result ≡ ended_at self.now place }
+    {
+        match self.ends.get(place) {
+            Some(Some(told)) => self.told.get(*told as usize).copied(),
+            _ => None,
+        }
+    }
+
     /// The values that went through a port of this journal, oldest first, each from its send to its receive. A value
     /// that was not received has none.
     pub fn passages(

@@ -103,13 +103,23 @@ fn copies_of(alloc: Global, text: &[u8], distance: usize) -> Result<Vec<Copied>,
 }
 
 impl Block {
-    /// A block of these bytes; `None` where they are more than `MOST_BLOCK`.
-    pub(crate) fn of(alloc: Global, text: &[u8]) -> Result<Option<Block>, AllocError>
+    /// A block of these bytes as they are.
+    pub(crate) fn plain(text: Vec<u8>) -> Block
+        requires { length text.items ≤ MOST_BLOCK }
+        ensures { result ≡ text.items }
+    {
+        Block {
+            distance: 0,
+            copies: Vec::new(*text.allocator()),
+            first: text,
+        }
+    }
+
+    /// A block of these bytes in less memory; `None` where it would not be much less.
+    pub(crate) fn packed(alloc: Global, text: &[u8]) -> Result<Option<Block>, AllocError>
+        requires { length text.now ≤ MOST_BLOCK }
         ensures { IfOk result (λ made. IfSome made (λ block. block ≡ text.now)) }
     {
-        if text.len() > MOST_BLOCK {
-            return Ok(None);
-        }
         let distance = first_line(text);
         let tried = copies_of(alloc, text, distance)?;
         let mut whole = Vec::from_slice(alloc, &text[..distance])?;
@@ -121,11 +131,18 @@ impl Block {
                 copies: Vec::from_slice(alloc, &tried)?,
             }));
         }
-        Ok(Some(Block {
-            first: Vec::from_slice(alloc, text)?,
-            distance,
-            copies: Vec::new(alloc),
-        }))
+        Ok(None)
+    }
+
+    /// Its bytes, where they are kept as they are.
+    pub fn as_plain(&self) -> Option<&[u8]>
+        ensures { IfSome result (λ text. text.now ≡ self.now) }
+    {
+        if self.copies.is_empty() {
+            Some(&self.first)
+        } else {
+            None
+        }
     }
 
     /// Puts the block's bytes in place of those that `out` has.

@@ -132,10 +132,13 @@ pub(crate) fn is_by_clock(clock: Option<Pid>, entries: &ShortEntries, place: u32
     }
 }
 
-/// What the clock has to do with an event.
+/// What the clock has to do with an event. Most journals have none.
 pub(crate) fn part_of(clock: Option<Pid>, entries: &ShortEntries, told: &Told) -> Part
     ensures { result ≡ part_of clock entries.now told.now }
 {
+    if clock.is_none() {
+        return Part::NoPart;
+    }
     if is_clock(clock, told.event.pid) {
         return Part::OwnCall;
     }

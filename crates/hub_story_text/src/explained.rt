@@ -13,7 +13,7 @@ use crate::lines::put_cells;
 use crate::paint::{Colour, NO_COLOUR, Paint, colour_of};
 use hub_base::{EntryRef, NoMemory, Pid};
 use hub_core::ShortJournal;
-use hub_story::{ShortStory, Told};
+use hub_story::{Story, Told};
 
 /// A journal, its story and its clock, and for each entry the other one of the passage in which it stands.
 #[derive(Clone, Copy)]
@@ -21,7 +21,7 @@ pub(crate) struct Explained<'a> {
     /// The journal.
     pub(crate) journal: &'a ShortJournal,
     /// Its story.
-    pub(crate) story: &'a ShortStory,
+    pub(crate) story: &'a Story,
     /// Its clock, if it has one.
     pub(crate) clock: Option<Pid>,
     /// The other entries.

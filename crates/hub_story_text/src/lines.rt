@@ -1,10 +1,10 @@
 //! The line of a step.
 
-ghost use Rattle.std.specs.Prelude.{◌≡◌, ◌+◌, ◌-◌, ◌++◌, codes, decimal, OnOk};
+ghost use Rattle.std.specs.Prelude.{◌≡◌, ◌<◌, ◌+◌, ◌-◌, ◌++◌, codes, decimal, OnOk};
 ghost use Rattle.hub_story_text.specs.AnswerText.{answer_words, ended_words};
 ghost use Rattle.hub_story_text.specs.Cells.{with_cell};
 ghost use Rattle.hub_story_text.specs.Writing.{LineBecomes};
-ghost use Rattle.hub_story_text.specs.LineText.{asks, cells, clock_words, got_words, moved_words, sent_words};
+ghost use Rattle.hub_story_text.specs.LineText.{asks, cells, got_words, moved_words, sent_words};
 ghost use Rattle.hub_story_text.specs.LineText.{step_words, value_words, waited_words, with_clock, with_end};
 
 use crate::answers::{fault_words, put_answer, put_ended};
@@ -30,11 +30,9 @@ fn put_asks(out: &mut Vec<u8>, entry: &EntryRef<'_>) -> Result<(), NoMemory>
 
 /// Appends how long a step waited that ended so.
 fn put_waited(out: &mut Vec<u8>, place: u32, told: &Told) -> Result<(), AllocError>
+    requires { place < told.now.by }
     ensures { OnOk result (out.new.items ≡ out.old.items ++ waited_words place told.now) }
 {
-    if told.by <= place {
-        return Ok(());
-    }
     put_number(out, b"", (told.by - place).into())?;
     put_number(out, b", until ", number_of(told.by))
 }
@@ -166,11 +164,14 @@ fn ended_cell(
     Ok(())
 }
 
-/// How long a step waited that ended so.
+/// How long a step waited that ended so. Most do not wait.
 fn waited_cell(out: &mut Vec<u8>, start: usize, place: u32, told: &Told) -> Result<(), AllocError>
     ensures { OnOk result (
         LineBecomes start out.old.items out.new.items (λ line. with_cell WAITED line (waited_words place told.now))) }
 {
+    if told.by <= place {
+        return Ok(());
+    }
     let cell = open_cell(out, start, WAITED)?;
     put_waited(out, place, told)?;
     close_cell(out, cell);
@@ -206,16 +207,6 @@ fn value_cell(
     Ok(())
 }
 
-/// Appends that the step is the clock's, if it is.
-fn put_clock(out: &mut Vec<u8>, clock: Option<Pid>, entry: &EntryRef<'_>) -> Result<(), AllocError>
-    ensures { OnOk result (out.new.items ≡ out.old.items ++ clock_words clock entry.now) }
-{
-    if is_clock(clock, entry.pid) {
-        return out.extend_from_slice(b"the clock");
-    }
-    Ok(())
-}
-
 /// That the step is the clock's, if it is.
 fn clock_cell(
     out: &mut Vec<u8>,
@@ -226,8 +217,11 @@ fn clock_cell(
     ensures { OnOk result (
         LineBecomes start out.old.items out.new.items (λ line. with_clock clock entry.now line)) }
 {
+    if !is_clock(clock, entry.pid) {
+        return Ok(());
+    }
     let cell = open_cell(out, start, VALUE)?;
-    put_clock(out, clock, entry)?;
+    out.extend_from_slice(b"the clock")?;
     close_cell(out, cell);
     Ok(())
 }

@@ -8,7 +8,7 @@ ghost use Rattle.hub_story_text.specs.PortMoves.{AreMoves, paired};
 use crate::port_moves::{PortMoves, places_on};
 use hub_base::{MOST_PORTS, Port, What};
 use hub_core::ShortJournal;
-use hub_story::{ShortStory, Told};
+use hub_story::{Story, Told};
 use std::alloc::{AllocError, Global};
 
 /// Whether the event tells that a port was made.
@@ -53,7 +53,7 @@ fn note_pairs(table: &mut Vec<Option<u32>>, sent: &[u32], received: &[u32])
 pub(crate) fn partners_of(
     alloc: Global,
     journal: &ShortJournal,
-    story: &ShortStory,
+    story: &Story,
     moves: &PortMoves,
 ) -> Result<Vec<Option<u32>>, AllocError>
     requires { AreMoves journal.now.entries story.now.told.items moves.now }
@@ -75,7 +75,7 @@ pub(crate) fn partners_of(
 pub fn all_partners(
     alloc: Global,
     journal: &ShortJournal,
-    story: &ShortStory,
+    story: &Story,
 ) -> Result<Vec<Option<u32>>, AllocError>
     ensures { IfOk result (λ table.
         AreIn (ways journal.now.entries story.now.told.items) (length journal.now.entries) table.items) }

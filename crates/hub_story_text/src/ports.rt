@@ -15,7 +15,7 @@ use crate::numbers::{number_of, put_number};
 use crate::port_moves::PortMoves;
 use hub_base::{Case, Port, Step, What};
 use hub_core::ShortJournal;
-use hub_story::{Level, ShortStory, Told};
+use hub_story::{Level, Story, Told};
 use std::alloc::AllocError;
 
 /// Appends the capacity of the port that the entry at this place made.
@@ -79,7 +79,7 @@ fn put_closer(out: &mut Vec<u8>, closer: Option<Told>) -> Result<(), AllocError>
 fn put_port(
     out: &mut Vec<u8>,
     journal: &ShortJournal,
-    story: &ShortStory,
+    story: &Story,
     moves: &PortMoves,
     closes: &[Told],
     told: &Told,
@@ -106,7 +106,7 @@ fn put_port(
 pub(crate) fn put_ports(
     out: &mut Vec<u8>,
     journal: &ShortJournal,
-    story: &ShortStory,
+    story: &Story,
     moves: &PortMoves,
 ) -> Result<(), AllocError>
     requires whole { told_by (length journal.now.entries) story.now.told.items ≡ story.now.told.items }

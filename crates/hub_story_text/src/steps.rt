@@ -53,7 +53,7 @@ pub fn stalled_of(alloc: Global, came: &[Told]) -> Result<Vec<Told>, AllocError>
     Ok(stalled)
 }
 
-/// Appends those whom a step stalled, but not the clock.
+/// Appends those whom a step stalled, but not the clock. Most steps stall nobody.
 fn put_stalled(
     out: &mut Vec<u8>,
     explained: &Explained,
@@ -66,6 +66,9 @@ fn put_stalled(
         (to_others explained.now.clock (filter (λ t. is_stalled t.event.what) came.now))) }
 {
     let stalled = stalled_of(*out.allocator(), came)?;
+    if stalled.is_empty() {
+        return Ok(());
+    }
     let others = to_others(*out.allocator(), explained.clock, &stalled)?;
     let entries = explained.journal.entries();
     put_waiters(out, b"", STALL_HEADING, entries, moves, &others)?;

@@ -1,7 +1,7 @@
 //! The whole text.
 
 ghost use Rattle.std.specs.Prelude.{◌≡◌, ◌<◌, ◌-◌, ◌^◌, ◌++◌, [], length, IfOk, OnOk};
-ghost use Rattle.hub_story.specs.Stories.{IsShortStoryOf};
+ghost use Rattle.hub_story.specs.Stories.{IsStoryOf};
 ghost use Rattle.hub_story_text.specs.Explained.{IsExplained, entries_of, told_of};
 ghost use Rattle.hub_story_text.specs.LastMoves.{AreLast, IsWhole};
 ghost use Rattle.hub_story_text.specs.PortMoves.{AreMoves};
@@ -21,7 +21,7 @@ use crate::waiters::put_waiters;
 use crate::waits::put_waits;
 use hub_base::NoMemory;
 use hub_core::ShortJournal;
-use hub_story::ShortStory;
+use hub_story::Story;
 use std::alloc::Global;
 
 const HEADING: &[u8] =
@@ -74,11 +74,11 @@ fn push_painted(
     out: &mut PackedText,
     alloc: Global,
     journal: &ShortJournal,
-    story: &ShortStory,
+    story: &Story,
     window: Window,
     paint: Paint,
 ) -> Result<(), NoMemory>
-    requires story { IsShortStoryOf journal.now story.now }
+    requires story { IsStoryOf journal.now story.now }
     requires few { length journal.now.entries < 2 ^ 32 - 1 }
     ensures { OnOk result (
         out.new.items ≡ out.old.items
@@ -102,10 +102,10 @@ pub fn push_story(
     out: &mut PackedText,
     alloc: Global,
     journal: &ShortJournal,
-    story: &ShortStory,
+    story: &Story,
     window: Window,
 ) -> Result<(), NoMemory>
-    requires story { IsShortStoryOf journal.now story.now }
+    requires story { IsStoryOf journal.now story.now }
     requires few { length journal.now.entries < 2 ^ 32 - 1 }
     ensures { OnOk result (
         out.new.items ≡ out.old.items
@@ -121,11 +121,11 @@ pub fn push_story(
 pub fn story_text(
     alloc: Global,
     journal: &ShortJournal,
-    story: &ShortStory,
+    story: &Story,
     window: Window,
     paint: Paint,
 ) -> Result<PackedText, NoMemory>
-    requires story { IsShortStoryOf journal.now story.now }
+    requires story { IsStoryOf journal.now story.now }
     requires few { length journal.now.entries < 2 ^ 32 - 1 }
     ensures { IfOk result (λ text.
         text.items ≡ painted_text paint window journal.now.head journal.now.entries story.now.told.items) }

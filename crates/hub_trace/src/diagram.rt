@@ -15,7 +15,7 @@ use crate::pieces::{Piece, number_of, put_pieces};
 use crate::ports::has_room;
 use hub_base::{Case, EntryRef, NoMemory, Port};
 use hub_core::{ShortEntries, ShortJournal};
-use hub_story::{ShortStory, Told};
+use hub_story::{Story, Told};
 use hub_story_text::PackedText;
 use std::alloc::{AllocError, Global};
 
@@ -290,7 +290,7 @@ fn shown_of(
 pub fn mermaid_text(
     alloc: Global,
     journal: &ShortJournal,
-    story: &ShortStory,
+    story: &Story,
     window: Window,
 ) -> Result<PackedText, NoMemory>
     ensures { IfOk result (λ text.

@@ -1,7 +1,7 @@
 //! A trace in Chrome's format.
 
 ghost use Rattle.std.specs.Prelude.{◌≡◌, ◌++◌, IfOk, OnOk};
-ghost use Rattle.hub_story.specs.Stories.{IsShortStoryOf};
+ghost use Rattle.hub_story.specs.Stories.{IsStoryOf};
 ghost use Rattle.hub_trace.specs.Trace.{event_text, ended_text, is_marked, kind_of, mark_text, marked_text, name_text, slice_text, still_text};
 ghost use Rattle.hub_trace.specs.Trace.{told_text, trace_text};
 
@@ -13,7 +13,7 @@ use crate::pieces::{Piece, number_of, put_pieces};
 use crate::traffic::Traffic;
 use hub_base::{Case, EntryRef, NoMemory, Step, StepRef, What};
 use hub_core::{ShortEntries, ShortJournal};
-use hub_story::{ShortStory, Told};
+use hub_story::{Story, Told};
 use hub_story_text::PackedText;
 use std::alloc::Global;
 
@@ -185,9 +185,9 @@ impl Pen<Told> for Waiting<'_> {
 pub fn trace_text(
     alloc: Global,
     journal: &ShortJournal,
-    story: &ShortStory,
+    story: &Story,
 ) -> Result<PackedText, NoMemory>
-    requires { IsShortStoryOf journal.now story.now }
+    requires { IsStoryOf journal.now story.now }
     ensures { IfOk result (λ text.
         text.items ≡ trace_text journal.now.head.procs journal.now.entries story.now.told.items) }
 {

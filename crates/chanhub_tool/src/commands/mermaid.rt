@@ -9,7 +9,7 @@ use crate::given::journal_command;
 use clap::Command;
 use hub_base::NoMemory;
 use hub_core::ShortJournal;
-use hub_story::{Window, short_story_of};
+use hub_story::{Window, story_of};
 use hub_story_text::PackedText;
 use hub_trace::mermaid_text;
 use std::alloc::{AllocError, Global};
@@ -34,6 +34,6 @@ pub(crate) fn diagram_of(
     ensures { IfOk result (λ text. text.items
         ≡ mermaid_text window journal.now.head.procs journal.now.entries (told journal.now.head journal.now.entries)) }
 {
-    let story = short_story_of(alloc, journal)?;
+    let story = story_of(alloc, journal)?;
     mermaid_text(alloc, journal, &story, window)
 }

@@ -13,7 +13,7 @@ use clap::Command;
 use hub_core::ShortJournal;
 use hub_page::{PageFault, write_page};
 use hub_replay::Sink;
-use hub_story::{Window, short_story_of};
+use hub_story::{Window, story_of};
 use std::alloc::{AllocError, Global};
 
 pub(super) fn grammar<'a>(alloc: Global) -> Result<Command<'a>, AllocError> {
@@ -40,6 +40,6 @@ pub(crate) fn write_page_of<W: Sink>(
         (page_text window journal.now.head journal.now.entries (told journal.now.head journal.now.entries))) }
     ensures err { IfErr result (Fails (W.failures output.old) (W.failures output.new)) }
 {
-    let story = short_story_of(alloc, journal)?;
+    let story = story_of(alloc, journal)?;
     write_page(alloc, journal, &story, window, output)
 }

@@ -12,7 +12,7 @@ use clap::{Arg, ArgMatches, Command};
 use hub_base::NoMemory;
 use hub_core::ShortJournal;
 use hub_replay::Sink;
-use hub_story::{Window, short_story_of};
+use hub_story::{Window, story_of};
 use hub_story_text::{PackedText, Paint, story_text};
 use std::alloc::{AllocError, Global};
 use std::env::{Env, FillError};
@@ -121,6 +121,6 @@ pub(crate) fn story_of_steps(
     ensures { IfOk result (λ text. text.items
         ≡ painted_text paint window journal.now.head journal.now.entries (told journal.now.head journal.now.entries)) }
 {
-    let story = short_story_of(alloc, journal)?;
+    let story = story_of(alloc, journal)?;
     story_text(alloc, journal, &story, window, paint)
 }

@@ -9,7 +9,7 @@ use crate::given::whole_journal_command;
 use clap::Command;
 use hub_base::NoMemory;
 use hub_core::ShortJournal;
-use hub_story::short_story_of;
+use hub_story::story_of;
 use hub_story_text::PackedText;
 use hub_trace::trace_text;
 use std::alloc::{AllocError, Global};
@@ -30,6 +30,6 @@ pub(crate) fn trace_of(alloc: Global, journal: &ShortJournal) -> Result<PackedTe
     ensures { IfOk result (λ text. text.items
         ≡ trace_text journal.now.head.procs journal.now.entries (told journal.now.head journal.now.entries)) }
 {
-    let story = short_story_of(alloc, journal)?;
+    let story = story_of(alloc, journal)?;
     trace_text(alloc, journal, &story)
 }

@@ -7,7 +7,7 @@ ghost use Rattle.hub_picture.specs.Svg.Entries.{asked_title, drawn_shape, entry_
 use super::bars::put_bar;
 use super::boxes::put_box;
 use crate::Asked;
-use crate::asked::{Shown, shows};
+use crate::asked::{Shown, ended_by, shows};
 use crate::frame::{Frame, number_of};
 use crate::label::{label_of, last_told};
 use crate::pen::Pen;
@@ -87,7 +87,7 @@ impl Pen<Asked> for Entries {
     ghost text = { λ pen. entry_in pen.0 pen.1 };
 
     fn put(&self, out: &mut Vec<u8>, asked: &Asked) -> Result<(), AllocError> {
-        if shows(self.0, self.1.steps, asked.place, asked.ended) {
+        if shows(self.0, self.1.steps, asked.place, ended_by(asked.ended)) {
             self.put_entry(out, asked)
         } else {
             Ok(())

@@ -8,7 +8,7 @@ ghost use Rattle.hub_picture.specs.Svg.Arrows.{has_end};
 ghost use Rattle.hub_picture.specs.Svg.Shapes.{AreAll, IsPart};
 ghost use Rattle.hub_picture.specs.Svg.Stalls.{is_by_one_of};
 
-use crate::asked::{Shown, shows};
+use crate::asked::{Shown, ended_by, shows};
 use crate::levels::shows_level;
 use crate::{Arrow, Asked, Drawing, Held, Window};
 use hub_story::Told;
@@ -32,7 +32,7 @@ impl Shows<Asked> for Those {
     ghost test = { λ those. is_shown those.0 those.1 };
 
     fn shows(&self, asked: &Asked) -> bool {
-        shows(self.0, self.1, asked.place, asked.ended)
+        shows(self.0, self.1, asked.place, ended_by(asked.ended))
     }
 }
 

@@ -11,7 +11,7 @@ use crate::pen::{push_each, push_numbers};
 use crate::ports::ports_with_room;
 use hub_base::{NoMemory, Port};
 use hub_core::{ShortEntries, ShortJournal};
-use hub_story::{ShortStory, Told};
+use hub_story::{Story, Told};
 use hub_story_text::PackedText;
 use std::alloc::Global;
 
@@ -45,7 +45,7 @@ pub(super) fn push_diagram(
     out: &mut PackedText,
     alloc: Global,
     journal: &ShortJournal,
-    story: &ShortStory,
+    story: &Story,
     window: Window,
 ) -> Result<(), NoMemory>
     ensures { OnOk result (out.new.items ≡ out.old.items

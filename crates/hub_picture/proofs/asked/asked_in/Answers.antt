@@ -11,15 +11,15 @@ loop-number-preserved c =
     let i = c.loop-number.number in
     let all = c.loop-number.all.items in
     let below : i < length es = omega (arith, c.loop-number-test.true, c.len-number-end.ensures) in
-    let test = c.shows.ensures ∙ ap (shows c.args.shown c.args.window i) c.end_at-ended.ensures in
+    let test = c.shows.ensures ∙ ap (shows c.args.shown c.args.window i) c.until_at.ensures in
     elim c.if-shows.branch [
       | then-shows+in_ok-push w ↦
           rw w.all-is
           (shown-next c.args.shown c.args.window s es i w.entry.result all w.push.new.self.items _ below (sym w.if-shows.true ∙ test)
           w.entry.ensures c.loop-number.invariant
           (w.in_ok-push.ensures.items
-          ∙ ap (λ e. all ++ record { place = i; entry = e; ended = c.end_at-ended.result } ∷ []) w.to_owned.ensures
-          ∙ ap (λ o. all ++ record { place = i; entry = w.entry.result; ended = o } ∷ []) c.end_at-ended.ensures))
+          ∙ ap (λ e. all ++ record { place = i; entry = e; ended = w.end.result } ∷ []) w.to_owned.ensures
+          ∙ ap (λ o. all ++ record { place = i; entry = w.entry.result; ended = o } ∷ []) w.end.ensures))
       | else-shows w ↦
           rw w.all-is (hidden-next c.args.shown c.args.window s es i all _ below (sym w.if-shows.false ∙ test) c.loop-number.invariant)
     ]

@@ -1,14 +1,14 @@
 use Rattle.std.proofs.Common.{◌∙◌, ◌++◌, ap, sym}
 use Rattle.hub_story.specs.OfPorts.{things_on}
-use Rattle.hub_picture.proofs.OtherPorts.{told-none, told-one}
+use Rattle.hub_picture.proofs.Places.{place-none, place-one}
 use Rattle.hub_picture.proofs.moves.note.Goals as goal
 
 pub returns-in_default : goal.returns-in_default
 returns-in_default c q =
-    told-none c.args.entries.now q c.args.told.now (things_on c.args.all.now q) (sym c.port_told.ensures ∙ c.in_default.is)
+    place-none c.args.entries.now q c.args.told.now c.args.place (things_on c.args.all.now q) (sym c.port_told.ensures ∙ c.in_default.is)
 
 pub returns : goal.returns
 returns c q =
     c.in_ok-push.ensures q
     ∙ ap (λ l. things_on c.args.all.now q ++ l)
-    (told-one c.args.entries.now q c.in-Some.port c.args.told.now (sym c.port_told.ensures ∙ c.in-Some.is))
+    (place-one c.args.entries.now q c.in-Some.port c.args.told.now c.args.place (sym c.port_told.ensures ∙ c.in-Some.is))

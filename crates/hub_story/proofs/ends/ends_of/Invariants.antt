@@ -1,6 +1,5 @@
-use Rattle.std.proofs.Common.{take}
-use Rattle.hub_story.proofs.Ending.{EndsSoFar}
+use Rattle.hub_story.proofs.Ending.{PlacesSoFar}
 use Rattle.hub_story.proofs.ends.ends_of.Given as goal
 
-abbrev pub invariant-loop-told : goal.invariant-loop-told
-invariant-loop-told l = EndsSoFar (take l.told-index l.told) l.count l.ends.items
+abbrev pub invariant-loop-place : goal.invariant-loop-place
+invariant-loop-place l = PlacesSoFar l.told l.place l.count l.ends.items

@@ -1,6 +1,6 @@
 -- The arrows of a port, one receive after the other.
 use Rattle.std.proofs.Common.{◌≡◌, ◌≤◌, ◌<◌, ◌+◌, ◌∙◌, ℕ, Bool, true, false, cond, List, [], ◌∷◌, ◌++◌, length, drop, get_or, map, filter}
-use Rattle.std.proofs.Common.{refl, ap, sym, add-one, append-nil, append_assoc, Option}
+use Rattle.std.proofs.Common.{refl, ap, sym, add-one, append-nil, append_assoc, is_some, Option, None, Some}
 use Rattle.std.specs.List.{cons_option, filter_map}
 use Rattle.std.proofs.Math.Seq.{drop-cons}
 use Rattle.std.proofs.lemmas.List.{drop_all}
@@ -25,6 +25,15 @@ moved-next pick es ts i d o below is =
     ap (filter_map (moved_by pick es)) (drop-cons ts i d below)
     ∙ ap (λ k. cons_option (moved_by pick es (get_or ts i d)) (filter_map (moved_by pick es) (drop k ts))) (sym (add-one i))
     ∙ ap (λ m. cons_option m (filter_map (moved_by pick es) (drop (i + 1) ts))) (sym is)
+
+-- what is told there, if something is
+pub some-moved : {A : Type 0} (o : Option A) → is_some o ≡ true → (x : A) × (o ≡ Some x)
+some-moved None is = absurd cc
+some-moved (Some x) is = (x, refl)
+
+pub none-moved : {A : Type 0} (o : Option A) → is_some o ≡ false → o ≡ None
+none-moved None is = refl
+none-moved (Some x) is = absurd cc
 
 pub moved-none : (pick : Option Case → Outcome → Option Value) (es : List Entry) (ts : List Told) (i : ℕ) → length ts ≤ i →
     filter_map (moved_by pick es) (drop i ts) ≡ []

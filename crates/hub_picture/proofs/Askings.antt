@@ -1,6 +1,6 @@
 -- The entries that are shown, one after the other.
 use Rattle.std.proofs.Common.{◌≡◌, ◌≤◌, ◌<◌, ◌+◌, ◌∙◌, ℕ, Bool, true, false, cond, List, [], ◌∷◌, ◌++◌, length, drop, get_or, filter}
-use Rattle.std.proofs.Common.{ap, sym, add-one, append-nil, append_assoc, Some, slice_get}
+use Rattle.std.proofs.Common.{refl, ap, sym, add-one, append-nil, append_assoc, arith, min, nat_le, nat_lt, ◌&&◌, Option, None, Some, slice_get}
 use Rattle.std.proofs.Math.Seq.{drop-cons}
 use Rattle.std.proofs.lemmas.List.{drop_all}
 use Rattle.std.proofs.lemmas.Option.{get_or_from_slice_get}
@@ -11,6 +11,7 @@ use Rattle.hub_story.specs.Ends.{ended_at}
 use Rattle.hub_story.specs.declared.window.Window.{Window}
 use Rattle.hub_picture.specs.declared.asked.Asked.{Asked}
 use Rattle.hub_picture.specs.declared.asked.Shown.{Shown}
+use Rattle.hub_picture.specs.declared.asked.Shown.TheVariants.{Boxes, Bars}
 use Rattle.hub_picture.specs.Drawings.{asked, ended_by, is_shown, shows}
 
 -- those from a place on
@@ -46,3 +47,31 @@ pub none-left : (shown : Shown) (w : Window) (s : Story) (es : List Entry) (i : 
     old ++ shown_from shown w s es i ≡ all → old ≡ all
 none-left shown w s es i old all past so =
     sym (ap (λ l. old ++ filter (is_shown shown w) (asked s i l)) (drop_all i es past) ∙ append-nil old) ∙ so
+
+-- ---- behind the window
+no-and : (b : Bool) → (b && false) ≡ false
+no-and true = refl
+no-and false = refl
+
+hides : (shown : Shown) (w : Window) (i : ℕ) (until : Option ℕ) → nat_lt i w.end ≡ false → shows shown w i until ≡ false
+hides Boxes w i until behind = rw behind (no-and (nat_le w.first i))
+hides Bars w i None behind = behind
+hides Bars w i (Some until) behind = rw behind (no-and (nat_lt i until))
+
+all-hidden : (shown : Shown) (w : Window) (s : Story) (es : List Entry) (i : ℕ) → w.end ≤ i → filter (is_shown shown w) (asked s i es) ≡ []
+all-hidden shown w s [] i past = refl
+all-hidden shown w s (e ∷ es) i past =
+    let behind : nat_lt i w.end ≡ false = grind arith in
+    rw (hides shown w i (ended_by (ended_at s i)) behind) (all-hidden shown w s es (i + 1) (omega (arith, past)))
+
+pub none-behind : (shown : Shown) (w : Window) (s : Story) (es : List Entry) (i : ℕ) (old all : List Asked) → min (length es) w.end ≤ i →
+    old ++ shown_from shown w s es i ≡ all → old ≡ all
+none-behind shown w s es i old all past so = by (nat_le w.end i) refl
+  where
+    by : (b : Bool) → b ≡ nat_le w.end i → old ≡ all
+    by true is =
+        let past : w.end ≤ i = grind arith in
+        sym (ap (λ l. old ++ l) (all-hidden shown w s (drop i es) i past) ∙ append-nil old) ∙ so
+    by false is =
+        let last : length es ≤ i = grind arith in
+        none-left shown w s es i old all last so

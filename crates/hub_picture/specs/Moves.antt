@@ -1,5 +1,5 @@
 -- On which port each thing that is told may have moved a value.
-use Rattle.std.specs.Prelude.{◌≡◌, ℕ, ◌==◌, Bool, false, List, [], ◌∷◌, map, Option, None, Some, slice_get, if◌then◌else◌}
+use Rattle.std.specs.Prelude.{◌≡◌, ℕ, ◌+◌, ◌==◌, Bool, false, List, [], ◌∷◌, drop, map, Option, None, Some, slice_get, if◌then◌else◌}
 use Rattle.std.specs.List.{filter_map}
 use Rattle.std.specs.Option.{option_map}
 use Rattle.hub_base.specs.declared.value.Port.{Port}
@@ -8,8 +8,10 @@ use Rattle.hub_base.specs.declared.case.Case.TheVariants.{Send, Recv}
 use Rattle.hub_base.specs.Entry.{Entry}
 use Rattle.hub_base.specs.declared.event.What.{What}
 use Rattle.hub_base.specs.declared.event.What.TheVariants as what
+use Rattle.hub_base.specs.Values.{sent_on}
+use Rattle.hub_story.specs.declared.moved.Moved.{Moved}
 use Rattle.hub_story.specs.declared.told.Told.{Told}
-use Rattle.hub_story.specs.Passing.{cases_at}
+use Rattle.hub_story.specs.Passing.{cases_at, moved_by, sends}
 
 abbrev pub port_of : Case → Port
 port_of (Send p v) = p
@@ -43,3 +45,11 @@ all_at all places = filter_map (slice_get all) places
 -- at these places of all stand these things, each at its own
 abbrev pub StandAt : List Told → List ℕ → List Told → Type 0
 StandAt all places these = map (slice_get all) places ≡ map Some these
+
+-- the first send on the port that is told from one place on is told at the other
+pub record IsNextSent (es : List Entry) (p : Port) (all : List Told) (from place : ℕ) : Type 0 where
+  pub told : Told
+  pub sent : Moved
+  pub at : slice_get all place ≡ Some told
+  pub is : moved_by (sent_on p) es told ≡ Some sent
+  pub next : sends es (drop from all) p ≡ sent ∷ sends es (drop (place + 1) all) p

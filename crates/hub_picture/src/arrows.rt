@@ -1,8 +1,10 @@
 //! Values on their way: the arrows of a drawing.
 
-ghost use Rattle.std.specs.Prelude.{◌≡◌, ◌<◌, ◌≤◌, ◌+◌, ◌++◌, ◌∷◌, [], drop, IfNone, IfOk, IfSome, OnOk, Some};
+ghost use Rattle.std.specs.Prelude.{◌≡◌, ◌<◌, ◌≤◌, ◌++◌, ◌∷◌, [], drop, is_some, length, IfNone, IfOk, IfSome, OnOk, Some};
 ghost use Rattle.hub_base.specs.Values.{got_on, sent_on};
-ghost use Rattle.hub_picture.specs.Drawings.{all_arrows, arrows_on, crosses, makes_port, ports_of};
+ghost use Rattle.hub_picture.specs.Drawings.{all_arrows, arrows_on, makes_port, ports_of};
+ghost use Rattle.hub_picture.specs.Moves.{IsNextSent};
+ghost use Rattle.hub_story.specs.declared.moved.Moved.{Moved as MovedValue};
 ghost use Rattle.hub_story.specs.Passing.{moved_by, passages, sends};
 
 use crate::Window;
@@ -19,13 +21,6 @@ pub struct Arrow {
     pub port: Port,
     /// From which call to which the value went.
     pub passage: Passage,
-}
-
-/// Whether a step of the passage is shown, or one between them.
-fn crosses(window: Window, passage: &Passage) -> bool
-    ensures { result ≡ crosses window passage.now }
-{
-    window.touches(passage.sent.told.by, passage.received.told.by)
 }
 
 /// Whether it tells that a port was made.
@@ -91,44 +86,80 @@ fn got_by(entries: &ShortEntries, port: Port, told: &Told) -> Option<Moved>
     Some(Moved { told: *told, value })
 }
 
-/// A send, and where the next one is looked for.
-#[derive(Clone, Copy)]
-struct Sent {
-    /// The send.
-    moved: Moved,
-    /// The place behind it.
-    behind: usize,
+/// Whether it tells of a send on the port.
+fn is_sent(entries: &ShortEntries, port: Port, told: &Told) -> bool
+    ensures { result ≡ is_some (moved_by (sent_on port) entries.now told.now) }
+{
+    let What::Fired {
+        case,
+        outcome: Outcome::Sent,
+    } = told.event.what
+    else {
+        return false;
+    };
+    match entries.case_at(told.asked as usize, case) {
+        Some(Case::Send(on, _value)) => on.0 == port.0,
+        _ => false,
+    }
 }
 
-/// The next send on the port that is told from this place on.
-fn next_sent(entries: &ShortEntries, port: Port, told: &OnPort<'_>, from: usize) -> Option<Sent>
-    ensures found { IfSome result (λ sent. sends entries.now (drop from told.now) port
-        ≡ sent.moved ∷ sends entries.now (drop sent.behind told.now) port) }
+/// Whether it tells of a receive from the port.
+fn is_got(entries: &ShortEntries, port: Port, told: &Told) -> bool
+    ensures { result ≡ is_some (moved_by (got_on port) entries.now told.now) }
+{
+    let What::Fired {
+        case,
+        outcome: Outcome::Got(_value),
+    } = told.event.what
+    else {
+        return false;
+    };
+    match entries.case_at(told.asked as usize, case) {
+        Some(Case::Recv(on)) => on.0 == port.0,
+        _ => false,
+    }
+}
+
+/// Where the next send on the port is told, from this place on.
+fn next_sent(entries: &ShortEntries, port: Port, told: &OnPort<'_>, from: usize) -> Option<usize>
+    ensures within { IfSome result (λ place. place < length told.now) }
+    ensures found { IfSome result (λ place. IsNextSent entries.now port told.now from place) }
     ensures none { IfNone result (sends entries.now (drop from told.now) port ≡ []) }
 {
     for place in from..told.len() {
-        if let Some(moved) = sent_by(entries, port, told.at(place)) {
-            return Some(Sent {
-                moved,
-                behind: place + 1,
-            });
+        if is_sent(entries, port, told.at(place)) {
+            return Some(place);
         }
     }
     None
 }
 
-/// Adds the arrow of a passage, where it is shown.
+/// Adds the arrow from a send on the port to a receive, where it is shown. Nothing is copied of one that is not.
 fn add_arrow(
     arrows: &mut Vec<Arrow>,
     window: Window,
     port: Port,
-    passage: Passage,
+    entries: &ShortEntries,
+    sent: &Told,
+    received: &Told,
 ) -> Result<(), AllocError>
-    ensures { OnOk result (arrows.new.items ≡ arrows.old.items ++ arrows_on window port (passage ∷ [])) }
+    ensures { OnOk result ((x y : MovedValue) → moved_by (sent_on port) entries.now sent.now ≡ Some x
+        → moved_by (got_on port) entries.now received.now ≡ Some y
+        → arrows.new.items ≡ arrows.old.items ++ arrows_on window port (record { sent = x; received = y } ∷ [])) }
 {
-    if crosses(window, &passage) {
-        arrows.push(Arrow { port, passage })?;
+    if !window.touches(sent.by, received.by) {
+        return Ok(());
     }
+    let Some(sent) = sent_by(entries, port, sent) else {
+        return Ok(());
+    };
+    let Some(received) = got_by(entries, port, received) else {
+        return Ok(());
+    };
+    arrows.push(Arrow {
+        port,
+        passage: Passage { sent, received },
+    })?;
     Ok(())
 }
 
@@ -145,20 +176,13 @@ fn add_arrows(
 {
     let mut from = 0;
     for place in 0..told.len() {
-        if let Some(received) = got_by(entries, port, told.at(place)) {
+        let received = told.at(place);
+        if is_got(entries, port, received) {
             let Some(sent) = next_sent(entries, port, told, from) else {
                 return Ok(());
             };
-            from = sent.behind;
-            add_arrow(
-                arrows,
-                window,
-                port,
-                Passage {
-                    sent: sent.moved,
-                    received,
-                },
-            )?;
+            from = sent + 1;
+            add_arrow(arrows, window, port, entries, told.at(sent), received)?;
         }
     }
     Ok(())

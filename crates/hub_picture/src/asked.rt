@@ -64,7 +64,18 @@ pub(crate) fn shows(shown: Shown, window: Window, place: u32, until: Option<u32>
     }
 }
 
-/// The entries that are shown, in order.
+/// Whether the entry at this place is shown. When it ended is looked up only for bars.
+fn shows_at(shown: Shown, window: Window, story: &Story, place: u32) -> bool
+    ensures { result ≡ shows shown window place (ended_by (ended_at story.now place)) }
+{
+    let until = match shown {
+        Shown::Boxes => None,
+        Shown::Bars => until_at(story, place as usize),
+    };
+    shows(shown, window, place, until)
+}
+
+/// The entries that are shown, in order. None behind the window is.
 pub(crate) fn asked_in(
     alloc: Global,
     shown: Shown,
@@ -78,9 +89,9 @@ pub(crate) fn asked_in(
 {
     let mut all = Vec::new(alloc);
     let mut one = Case::default();
-    for number in 0..entries.len() {
+    for number in 0..entries.len().min(window.end as usize) {
         let place = number as u32;
-        if shows(shown, window, place, until_at(story, number)) {
+        if shows_at(shown, window, story, place) {
             all.push(Asked {
                 place,
                 entry: entries.entry(number, &mut one).to_owned(),

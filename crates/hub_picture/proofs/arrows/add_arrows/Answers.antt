@@ -1,8 +1,9 @@
 use Rattle.std.proofs.Common.{◌<◌, ◌≤◌, ◌∙◌, ap, sym, arith, length, None, Some}
-use Rattle.hub_base.specs.Values.{got_on}
+use Rattle.std.proofs.lemmas.Option.{get_or_from_slice_get}
+use Rattle.hub_base.specs.Values.{got_on, sent_on}
 use Rattle.hub_story.specs.Passing.{moved_by}
-use Rattle.hub_picture.proofs.ArrowsLeft.{moved-next, moved-none, next-arrow, no-receive-left, same-arrows}
-use Rattle.hub_picture.proofs.arrows.add_arrows.Goals.{in-Some+in-Some-next_sent+in_ok-add_arrow, in_default}
+use Rattle.hub_picture.proofs.ArrowsLeft.{moved-next, moved-none, next-arrow, no-receive-left, none-moved, same-arrows, some-moved}
+use Rattle.hub_picture.proofs.arrows.add_arrows.Goals.{then-is_got+in-Some+in_ok-add_arrow, else-is_got}
 use Rattle.hub_picture.proofs.arrows.add_arrows.Goals as goal
 
 pub loop-place-preserved : goal.loop-place-preserved
@@ -11,19 +12,23 @@ loop-place-preserved c =
     let ts = c.args.told.now in
     let p = c.args.port in
     let so = c.loop-place in
-    let told = c.got_by.ensures ∙ ap (moved_by (got_on p) es) c.at.ensures in
+    let here = c.at-received.result.now in
     let below : so.place < length ts = omega (arith, c.loop-place-test.true, c.len-place-end.ensures) in
-    elim c.match-got_by.branch [
-      | in-Some+in-Some-next_sent+in_ok-add_arrow w ↦
+    elim c.if-is_got.branch [
+      | then-is_got+in-Some+in_ok-add_arrow w ↦
+          let received = some-moved (moved_by (got_on p) es here) (sym c.is_got.ensures ∙ w.if-is_got.true) in
+          let next = rw w.in-Some.is at w.next_sent.ensures.found in
+          let at = w.at.ensures ∙ get_or_from_slice_get ts w.in-Some.sent next.told w.at.result.now next.at in
           rw (w.arrows-is, w.from-is)
-          (next-arrow c.args.window p so.arrows.items _ _ w.in-Some-next_sent.sent.moved w.in-Some.received _ _ _ _
-          w.in_ok-add_arrow.ensures (rw w.in-Some-next_sent.is at w.next_sent.ensures.found)
-          (moved-next (got_on p) es ts so.place c.at.result.now (Some w.in-Some.received) below
-          (sym w.in-Some.is ∙ told)) so.invariant)
-      | in_default w ↦
+          (next-arrow c.args.window p so.arrows.items _ _ next.sent received.0 _ _ _ _
+          (w.in_ok-add_arrow.ensures next.sent received.0 (ap (moved_by (sent_on p) es) at ∙ next.is) received.1) next.next
+          (moved-next (got_on p) es ts so.place here (Some received.0) below (sym received.1 ∙ ap (moved_by (got_on p) es) c.at-received.ensures))
+          so.invariant)
+      | else-is_got w ↦
+          let none = none-moved (moved_by (got_on p) es here) (sym c.is_got.ensures ∙ w.if-is_got.false) in
           rw (w.arrows-is, w.from-is)
           (same-arrows c.args.window p so.arrows.items _ _ _ _
-          (moved-next (got_on p) es ts so.place c.at.result.now None below (sym w.in_default.is ∙ told)) so.invariant)
+          (moved-next (got_on p) es ts so.place here None below (sym none ∙ ap (moved_by (got_on p) es) c.at-received.ensures)) so.invariant)
     ]
 
 pub returns : goal.returns

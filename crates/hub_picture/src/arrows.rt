@@ -2,14 +2,14 @@
 
 ghost use Rattle.std.specs.Prelude.{◌≡◌, ◌<◌, ◌≤◌, ◌++◌, ◌∷◌, [], drop, is_some, length, IfNone, IfOk, IfSome, OnOk, Some};
 ghost use Rattle.hub_base.specs.Values.{got_on, sent_on};
-ghost use Rattle.hub_picture.specs.Drawings.{all_arrows, arrows_on, makes_port, ports_of};
+ghost use Rattle.hub_picture.specs.Drawings.{all_arrows, arrows_on};
 ghost use Rattle.hub_picture.specs.Moves.{IsNextSent};
 ghost use Rattle.hub_story.specs.declared.moved.Moved.{Moved as MovedValue};
 ghost use Rattle.hub_story.specs.Passing.{moved_by, passages, sends};
 
 use crate::Window;
 use crate::moves::{Moves, OnPort};
-use hub_base::{Case, MOST_PORTS, Outcome, Port, Value, What};
+use hub_base::{Case, Outcome, Port, Value, What};
 use hub_core::ShortEntries;
 use hub_story::{Moved, Passage, Told};
 use std::alloc::{AllocError, Global};
@@ -21,25 +21,6 @@ pub struct Arrow {
     pub port: Port,
     /// From which call to which the value went.
     pub passage: Passage,
-}
-
-/// Whether it tells that a port was made.
-fn makes_port(told: &Told) -> bool
-    ensures { result ≡ makes_port told.now }
-{
-    matches!(told.event.what, What::Made(_))
-}
-
-/// How many ports were made. No hub has more than `MOST_PORTS`.
-fn ports_of(told: &[Told]) -> usize
-    ensures value { result ≡ ports_of told.now }
-    ensures most { result ≤ MOST_PORTS }
-{
-    let mut count = 0;
-    for told in told {
-        count += usize::from(makes_port(told));
-    }
-    count.min(MOST_PORTS)
 }
 
 /// The value that a case sent on the port, by its outcome.
@@ -212,7 +193,7 @@ pub(crate) fn arrows_in(
         all.items ≡ all_arrows window moves.now.entries.now moves.now.told.now) }
 {
     let mut all = Vec::new(alloc);
-    for before in 0..ports_of(moves.told) as u16 {
+    for before in 0..moves.ports() as u16 {
         let port = Port(before + 1);
         add_port(&mut all, window, moves, port)?;
     }

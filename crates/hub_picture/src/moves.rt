@@ -5,9 +5,10 @@
 ghost use Rattle.std.specs.Prelude.{◌≡◌, ◌<◌, ◌++◌, [], filter, length, slice_index_or, IfOk, OnOk};
 ghost use Rattle.hub_base.specs.declared.value.Port.{Port as PortNumber};
 ghost use Rattle.hub_story.specs.OfPorts.{things_on};
+ghost use Rattle.hub_picture.specs.Drawings.{makes_port};
 ghost use Rattle.hub_picture.specs.Moves.{StandAt, is_told_on, place_on, port_of, port_told};
 
-use hub_base::{Case, Port, What};
+use hub_base::{Case, MOST_PORTS, Port, What};
 use hub_core::ShortEntries;
 use hub_story::{ByPort, Told};
 use std::alloc::{AllocError, Global};
@@ -114,6 +115,26 @@ impl<'a> OnPort<'a> {
     }
 }
 
+/// Whether it tells that a port was made.
+fn makes_port(told: &Told) -> bool
+    ensures { result ≡ makes_port told.now }
+{
+    matches!(told.event.what, What::Made(_))
+}
+
+/// That ports were made, in order.
+fn made_of(alloc: Global, told: &[Told]) -> Result<Vec<Told>, AllocError>
+    ensures { IfOk result (λ made. made.items ≡ filter makes_port told.now) }
+{
+    let mut made = Vec::new(alloc);
+    for told in told {
+        if makes_port(told) {
+            made.push(*told)?;
+        }
+    }
+    Ok(made)
+}
+
 /// What is told, and apart from it the places of what is told of each port.
 #[derive(Drop)]
 pub(crate) struct Moves<'a> {
@@ -123,12 +144,16 @@ pub(crate) struct Moves<'a> {
     pub told: &'a [Told],
     /// The places of what is told of each port, in order.
     by_port: ByPort<u32>,
+    /// That ports were made, in order.
+    pub made: Vec<Told>,
+    ghost makes: { made.items ≡ filter makes_port told.now },
     ghost each: { (q : PortNumber) →
         StandAt told.now (things_on by_port q) (filter (is_told_on entries.now q) told.now) },
 }
 
 impl<'a> Moves<'a> {
-    ghost use Rattle.std.specs.Prelude.{◌≡◌, IfOk, filter};
+    ghost use Rattle.std.specs.Prelude.{◌≡◌, ◌≤◌, IfOk, filter};
+    ghost use Rattle.hub_picture.specs.Drawings.{ports_of};
     ghost use Rattle.hub_picture.specs.Moves.{is_told_on};
 
     /// Of these entries.
@@ -141,11 +166,21 @@ impl<'a> Moves<'a> {
         ensures told { IfOk result (λ moves. moves.told.now ≡ told.entry.now) }
     {
         let by_port = places_by_port(alloc, entries, told)?;
+        let made = made_of(alloc, told)?;
         Ok(Moves {
             entries,
             told,
             by_port,
+            made,
         })
+    }
+
+    /// How many ports were made. No hub has more than `MOST_PORTS`.
+    pub fn ports(&self) -> usize
+        ensures value { result ≡ ports_of self.now.told.now }
+        ensures most { result ≤ MOST_PORTS }
+    {
+        self.made.len().min(MOST_PORTS)
     }
 
     /// What is told of a port, in order.

@@ -3,11 +3,10 @@
 
 ghost use Rattle.std.specs.Prelude.{◌≡◌, ◌<◌, ◌-◌, ◌^◌, IfOk, OnOk, length};
 ghost use Rattle.hub_picture.specs.Drawings.{IsDrawingOf};
-ghost use Rattle.hub_picture.specs.Levels.{all_levels, shown_strips};
+ghost use Rattle.hub_picture.specs.Levels.{all_levels, all_strips, shown_strips};
 ghost use Rattle.hub_picture.specs.Shapes.{HasAsked, HasMoved};
 ghost use Rattle.hub_story.specs.Windows.{within};
 
-use crate::Window;
 use crate::arrows::arrows_in;
 use crate::asked::{Shown, asked_in};
 use crate::drawing::Drawing;
@@ -17,9 +16,17 @@ use crate::moves::Moves;
 use crate::stalls::all_stalled;
 use crate::strips::strips_of;
 use crate::waiters::waiters_in;
+use crate::{Strip, Window};
 use hub_core::ShortJournal;
 use hub_story::{Story, Told};
 use std::alloc::{AllocError, Global};
+
+/// The strips of the ports that were made.
+fn all_strips(alloc: Global, moves: &Moves<'_>) -> Result<Vec<Strip>, AllocError>
+    ensures { IfOk result (λ strips. strips.items ≡ all_strips moves.now.entries.now moves.now.told.now) }
+{
+    strips_of(alloc, moves.entries, &moves.made)
+}
 
 /// The strips that are shown, and all levels.
 fn all_levels(alloc: Global, window: Window, moves: &Moves<'_>) -> Result<Levels, AllocError>
@@ -28,7 +35,7 @@ fn all_levels(alloc: Global, window: Window, moves: &Moves<'_>) -> Result<Levels
     ensures levels { IfOk result (λ all.
         all.held.items ≡ all_levels window moves.now.entries.now moves.now.told.now) }
 {
-    let made = strips_of(alloc, moves.entries, moves.told)?;
+    let made = all_strips(alloc, moves)?;
     levels_in(alloc, window, moves, &made)
 }
 

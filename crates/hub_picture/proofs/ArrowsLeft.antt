@@ -26,14 +26,14 @@ moved-next pick es ts i d o below is =
     ∙ ap (λ k. cons_option (moved_by pick es (get_or ts i d)) (filter_map (moved_by pick es) (drop k ts))) (sym (add-one i))
     ∙ ap (λ m. cons_option m (filter_map (moved_by pick es) (drop (i + 1) ts))) (sym is)
 
--- what is told there, if something is
-pub some-moved : {A : Type 0} (o : Option A) → is_some o ≡ true → (x : A) × (o ≡ Some x)
-some-moved None is = absurd cc
-some-moved (Some x) is = (x, refl)
+-- what an option has, by the test of it
+pub is-some : {A : Type 0} (o : Option A) → is_some o ≡ true → (x : A) × (o ≡ Some x)
+is-some None is = absurd cc
+is-some (Some x) is = (x, refl)
 
-pub none-moved : {A : Type 0} (o : Option A) → is_some o ≡ false → o ≡ None
-none-moved None is = refl
-none-moved (Some x) is = absurd cc
+pub is-none : {A : Type 0} (o : Option A) → is_some o ≡ false → o ≡ None
+is-none None is = refl
+is-none (Some x) is = absurd cc
 
 pub moved-none : (pick : Option Case → Outcome → Option Value) (es : List Entry) (ts : List Told) (i : ℕ) → length ts ≤ i →
     filter_map (moved_by pick es) (drop i ts) ≡ []

@@ -1,6 +1,7 @@
 -- The entries that are shown, one after the other.
 use Rattle.std.proofs.Common.{◌≡◌, ◌≤◌, ◌<◌, ◌+◌, ◌∙◌, ℕ, Bool, true, false, cond, List, [], ◌∷◌, ◌++◌, length, drop, get_or, filter}
 use Rattle.std.proofs.Common.{refl, ap, sym, add-one, append-nil, append_assoc, arith, min, nat_le, nat_lt, ◌&&◌, Option, None, Some, slice_get}
+use Rattle.std.proofs.Math.Bool.{and-false}
 use Rattle.std.proofs.Math.Seq.{drop-cons}
 use Rattle.std.proofs.lemmas.List.{drop_all}
 use Rattle.std.proofs.lemmas.Option.{get_or_from_slice_get}
@@ -9,6 +10,7 @@ use Rattle.hub_base.specs.Entry.{Entry}
 use Rattle.hub_story.specs.declared.story.Story.{Story}
 use Rattle.hub_story.specs.Ends.{ended_at}
 use Rattle.hub_story.specs.declared.window.Window.{Window}
+use Rattle.hub_story.specs.Windows.{has_any}
 use Rattle.hub_picture.specs.declared.asked.Asked.{Asked}
 use Rattle.hub_picture.specs.declared.asked.Shown.{Shown}
 use Rattle.hub_picture.specs.declared.asked.Shown.TheVariants.{Boxes, Bars}
@@ -49,14 +51,11 @@ none-left shown w s es i old all past so =
     sym (ap (λ l. old ++ filter (is_shown shown w) (asked s i l)) (drop_all i es past) ∙ append-nil old) ∙ so
 
 -- ---- behind the window
-no-and : (b : Bool) → (b && false) ≡ false
-no-and true = refl
-no-and false = refl
-
 hides : (shown : Shown) (w : Window) (i : ℕ) (until : Option ℕ) → nat_lt i w.end ≡ false → shows shown w i until ≡ false
-hides Boxes w i until behind = rw behind (no-and (nat_le w.first i))
-hides Bars w i None behind = behind
-hides Bars w i (Some until) behind = rw behind (no-and (nat_lt i until))
+hides Boxes w i until behind = rw behind (and-false (nat_le w.first i))
+hides Bars w i None behind = rw behind (and-false (has_any w))
+hides Bars w i (Some until) behind =
+    rw behind (ap (λ b. nat_lt i until && b) (and-false (has_any w)) ∙ and-false (nat_lt i until))
 
 all-hidden : (shown : Shown) (w : Window) (s : Story) (es : List Entry) (i : ℕ) → w.end ≤ i → filter (is_shown shown w) (asked s i es) ≡ []
 all-hidden shown w s [] i past = refl

@@ -1,6 +1,7 @@
 -- What is told of other ports counts for nothing on this one.
-use Rattle.std.proofs.Common.{◌≡◌, ◌∙◌, ◌&&◌, ℕ, Bool, true, false}
+use Rattle.std.proofs.Common.{◌≡◌, ◌∙◌, ℕ, Bool, true, false}
 use Rattle.std.proofs.Common.{cond, List, [], ◌∷◌, filter, refl, ap, sym, Option, None, Some, slice_get, arith, nat_le}
+use Rattle.std.proofs.Math.Bool.{and-false}
 use Rattle.std.specs.List.{filter_map}
 use Rattle.std.specs.Option.{option_map}
 use Rattle.hub_base.specs.declared.value.Port.{Port}
@@ -21,7 +22,8 @@ use Rattle.hub_picture.specs.declared.strips.Strip.{Strip}
 use Rattle.hub_picture.specs.declared.waiters.Side.{Side}
 use Rattle.hub_picture.specs.declared.waiters.Side.TheVariants.{Sends, Receives}
 use Rattle.hub_picture.specs.Levels.{after, empty, is_same, levels_from, levels_on, shows_level}
-use Rattle.hub_picture.specs.Moves.{fired_port, is_port, is_told_on, port_of}
+use Rattle.hub_base.specs.Ready.{port_of}
+use Rattle.hub_picture.specs.Moves.{fired_port, is_port, is_told_on}
 use Rattle.hub_picture.specs.Waiters.{last_on, last_that, later, passed_until}
 
 no-send : (p : Port) (c : Option Case) (o : Outcome) → is_port p (option_map port_of c) ≡ false → sent_on p c o ≡ None
@@ -109,13 +111,9 @@ pub same-levels : (w : Window) (es : List Entry) (all : List Told) (s : Strip) �
 same-levels w es all s = ap (filter (shows_level w)) (same-from es s 0 empty all)
 
 -- ---- who was the last
-no-and : (b : Bool) → (b && false) ≡ false
-no-and true = refl
-no-and false = refl
-
 not-passed : (side : Side) (es : List Entry) (p : Port) (step : ℕ) (t : Told) → is_told_on es p t ≡ false → passed_until side es p step t ≡ false
-not-passed Sends es p step t other = rw (no-sent es p t other) (no-and (nat_le t.by step))
-not-passed Receives es p step t other = rw (no-got es p t other) (no-and (nat_le t.by step))
+not-passed Sends es p step t other = rw (no-sent es p t other) (and-false (nat_le t.by step))
+not-passed Receives es p step t other = rw (no-got es p t other) (and-false (nat_le t.by step))
 
 last-kept : (P q : Told → Bool) (before : Option Told) (ts : List Told) → ((t : Told) → q t ≡ false → P t ≡ false) →
     last_that P before (filter q ts) ≡ last_that P before ts

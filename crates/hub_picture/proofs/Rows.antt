@@ -10,11 +10,7 @@ use Rattle.hub_story.specs.declared.told.Told.{Told}
 use Rattle.hub_story.specs.declared.window.Window.{Window}
 use Rattle.hub_picture.specs.declared.levels.Held.{Held}
 use Rattle.hub_picture.specs.declared.strips.Strip.{Strip}
-use Rattle.hub_picture.specs.Levels.{after, empty, held, holds_any, is_same, levels_from, levels_on, rows_from, shows_level}
-
--- a strip, in this row
-abbrev pub in-row : ℕ → Strip → Strip
-in-row row s = record { row = row; port = s.port; room = s.room }
+use Rattle.hub_picture.specs.Levels.{after, empty, held, holds_any, in_row, is_same, levels_from, levels_on, rows_from, shows_level}
 
 -- ---- as many levels are shown in any row
 one-more : (b : Bool) (h other : Held) (xs ys : List Held) → length xs ≡ length ys → length (cond b (h ∷ xs) xs) ≡ length (cond b (other ∷ ys) ys)
@@ -22,9 +18,9 @@ one-more true h other xs ys same = ap suc same
 one-more false h other xs ys same = same
 
 as-many-from : (w : Window) (es : List Entry) (s : Strip) (row from : ℕ) (l : Level) (ts : List Told) →
-    length (filter (shows_level w) (levels_from es s from l ts)) ≡ length (filter (shows_level w) (levels_from es (in-row row s) from l ts))
+    length (filter (shows_level w) (levels_from es s from l ts)) ≡ length (filter (shows_level w) (levels_from es (in_row row s) from l ts))
 as-many-from w es s row from l [] =
-    one-more (shows_level w (held s from None l)) (held s from None l) (held (in-row row s) from None l) [] [] refl
+    one-more (shows_level w (held s from None l)) (held s from None l) (held (in_row row s) from None l) [] [] refl
 as-many-from w es s row from l (t ∷ ts) =
     by (is_same l next) (as-many-from w es s row from l ts) (as-many-from w es s row t.by next ts)
   where
@@ -34,44 +30,44 @@ as-many-from w es s row from l (t ∷ ts) =
     number : List Held → ℕ
     number hs = length (filter (shows_level w) hs)
 
-    by : (b : Bool) → number (levels_from es s from l ts) ≡ number (levels_from es (in-row row s) from l ts) →
-        number (levels_from es s t.by next ts) ≡ number (levels_from es (in-row row s) t.by next ts) →
+    by : (b : Bool) → number (levels_from es s from l ts) ≡ number (levels_from es (in_row row s) from l ts) →
+        number (levels_from es s t.by next ts) ≡ number (levels_from es (in_row row s) t.by next ts) →
         number (cond b (levels_from es s from l ts) (held s from (Some t.by) l ∷ levels_from es s t.by next ts))
-        ≡ number (cond b (levels_from es (in-row row s) from l ts) (held (in-row row s) from (Some t.by) l ∷ levels_from es (in-row row s) t.by next ts))
+        ≡ number (cond b (levels_from es (in_row row s) from l ts) (held (in_row row s) from (Some t.by) l ∷ levels_from es (in_row row s) t.by next ts))
     by true same moved = same
     by false same moved =
-        one-more (shows_level w (held s from (Some t.by) l)) (held s from (Some t.by) l) (held (in-row row s) from (Some t.by) l) _ _ moved
+        one-more (shows_level w (held s from (Some t.by) l)) (held s from (Some t.by) l) (held (in_row row s) from (Some t.by) l) _ _ moved
 
 as-many : (w : Window) (es : List Entry) (all : List Told) (s : Strip) (row : ℕ) →
-    length (levels_on w es all s) ≡ length (levels_on w es all (in-row row s))
+    length (levels_on w es all s) ≡ length (levels_on w es all (in_row row s))
 as-many w es all s row = as-many-from w es s row 0 empty all
 
-holds-so : (w : Window) (es : List Entry) (all : List Told) (s : Strip) (row : ℕ) → holds_any w es all (in-row row s) ≡ holds_any w es all s
+holds-so : (w : Window) (es : List Entry) (all : List Told) (s : Strip) (row : ℕ) → holds_any w es all (in_row row s) ≡ holds_any w es all s
 holds-so w es all s row = ap (λ n. not (n == 0)) (sym (as-many w es all s row))
 
 -- ---- one strip more
 next : (w : Window) (es : List Entry) (all : List Told) (made : List Strip) (i row : ℕ) (d blank : Strip) (b : Bool) → i < length made →
     d ≡ get_or made i blank →
-    holds_any w es all (in-row row d) ≡ b →
+    holds_any w es all (in_row row d) ≡ b →
     rows_from w es all row (drop i made)
-    ≡ cond b (in-row row d ∷ rows_from w es all (row + 1) (drop (i + 1) made)) (rows_from w es all row (drop (i + 1) made))
+    ≡ cond b (in_row row d ∷ rows_from w es all (row + 1) (drop (i + 1) made)) (rows_from w es all row (drop (i + 1) made))
 next w es all made i row d blank b below at holds =
     let rest : List Strip = drop (i + 1) made in
     at_drop_more (rows_from w es all row) made i blank below ∙ ap (λ s. rows_from w es all row (s ∷ rest)) (sym at)
-    ∙ ap (λ h. cond h (in-row row d ∷ rows_from w es all (row + 1) rest) (rows_from w es all row rest)) (sym (holds-so w es all d row) ∙ holds)
+    ∙ ap (λ h. cond h (in_row row d ∷ rows_from w es all (row + 1) rest) (rows_from w es all row rest)) (sym (holds-so w es all d row) ∙ holds)
 
 pub row-shown : (w : Window) (es : List Entry) (all : List Told) (made : List Strip) (i : ℕ) (d blank : Strip) (old new text : List Strip) → i < length made →
-    d ≡ get_or made i blank → holds_any w es all (in-row (length old) d) ≡ true → new ≡ old ++ in-row (length old) d ∷ [] →
+    d ≡ get_or made i blank → holds_any w es all (in_row (length old) d) ≡ true → new ≡ old ++ in_row (length old) d ∷ [] →
     old ++ rows_from w es all (length old) (drop i made) ≡ text → new ++ rows_from w es all (length new) (drop (i + 1) made) ≡ text
 row-shown w es all made i d blank old new text below at holds is so =
-    let s : Strip = in-row (length old) d in
+    let s : Strip = in_row (length old) d in
     let rest : List Strip = drop (i + 1) made in
     ap (λ l. l ++ rows_from w es all (length l) rest) is ∙ append_assoc old (s ∷ []) (rows_from w es all (length (old ++ s ∷ [])) rest)
     ∙ ap (λ k. old ++ s ∷ rows_from w es all k rest) (length_push old s)
     ∙ ap (λ l. old ++ l) (sym (next w es all made i (length old) d blank true below at holds)) ∙ so
 
 pub row-hidden : (w : Window) (es : List Entry) (all : List Told) (made : List Strip) (i : ℕ) (d blank : Strip) (old text : List Strip) → i < length made →
-    d ≡ get_or made i blank → holds_any w es all (in-row (length old) d) ≡ false →
+    d ≡ get_or made i blank → holds_any w es all (in_row (length old) d) ≡ false →
     old ++ rows_from w es all (length old) (drop i made) ≡ text → old ++ rows_from w es all (length old) (drop (i + 1) made) ≡ text
 row-hidden w es all made i d blank old text below at holds so =
     ap (λ l. old ++ l) (sym (next w es all made i (length old) d blank false below at holds)) ∙ so

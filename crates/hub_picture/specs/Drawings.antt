@@ -88,9 +88,9 @@ stalls_in w t = is_stalled t.event.what && has w t.by
 -- the lanes are the processes, the strips the ports that hold a value in the window; the boxes are the entries of the window, the bars the
 -- calls that waited, the arrows the passages of all ports, and the levels what ports held, as far as they touch it; the
 -- stalls who was stalled by its steps, and the waiters who waits in vain, and for what: each once, in order, and nothing else
-pub record IsDrawingOf (given : JournalView) (s : Story) (w : Window) (d : Drawing) : Type 0 where
+pub record IsDrawnIn (w : Window) (given : JournalView) (s : Story) (d : Drawing) : Type 0 where
   pub procs : d.procs ≡ given.head.procs
-  pub window : d.window ≡ within w (length given.entries)
+  pub window : d.window ≡ w
   pub lanes : d.lanes.items ≡ lanes_of given.head.procs given.entries s.told.items
   pub strips : d.strips.items ≡ shown_strips w given.entries s.told.items
   pub boxes : d.boxes.items ≡ filter (is_shown Boxes w) (asked s 0 given.entries)
@@ -99,3 +99,7 @@ pub record IsDrawingOf (given : JournalView) (s : Story) (w : Window) (d : Drawi
   pub levels : d.levels.items ≡ all_levels w given.entries s.told.items
   pub stalls : d.stalls.items ≡ filter (stalls_in w) s.told.items
   pub waiters : d.waiters.items ≡ all_waiters w given.entries s.told.items (filter (stalls_in w) s.told.items) s.waiting.items
+
+-- the same, of the steps of the window that the journal has
+abbrev pub IsDrawingOf : JournalView → Story → Window → Drawing → Type 0
+IsDrawingOf given s w d = IsDrawnIn (within w (length given.entries)) given s d

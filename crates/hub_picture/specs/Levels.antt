@@ -101,11 +101,15 @@ levels_on w es all s = filter (shows_level w) (levels_from es s 0 empty all)
 abbrev pub holds_any : Window → List Entry → List Told → Strip → Bool
 holds_any w es all s = not (length (levels_on w es all s) == 0)
 
+-- the strip, in this row
+abbrev pub in_row : ℕ → Strip → Strip
+in_row row s = record { row = row; port = s.port; room = s.room }
+
 -- of these strips those whose ports do, a row each from this one on
 abbrev pub rows_from : Window → List Entry → List Told → ℕ → List Strip → List Strip
 rows_from w es all row [] = []
 rows_from w es all row (s ∷ ss) =
-    if holds_any w es all s then record { row = row; port = s.port; room = s.room } ∷ rows_from w es all (row + 1) ss
+    if holds_any w es all s then in_row row s ∷ rows_from w es all (row + 1) ss
     else rows_from w es all row ss
 
 abbrev pub shown_strips : Window → List Entry → List Told → List Strip

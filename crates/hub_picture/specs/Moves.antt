@@ -4,18 +4,14 @@ use Rattle.std.specs.List.{filter_map}
 use Rattle.std.specs.Option.{option_map}
 use Rattle.hub_base.specs.declared.value.Port.{Port}
 use Rattle.hub_base.specs.declared.case.Case.{Case}
-use Rattle.hub_base.specs.declared.case.Case.TheVariants.{Send, Recv}
 use Rattle.hub_base.specs.Entry.{Entry}
 use Rattle.hub_base.specs.declared.event.What.{What}
 use Rattle.hub_base.specs.declared.event.What.TheVariants as what
+use Rattle.hub_base.specs.Ready.{port_of}
 use Rattle.hub_base.specs.Values.{sent_on}
 use Rattle.hub_story.specs.declared.moved.Moved.{Moved}
 use Rattle.hub_story.specs.declared.told.Told.{Told}
 use Rattle.hub_story.specs.Passing.{cases_at, moved_by, sends}
-
-abbrev pub port_of : Case → Port
-port_of (Send p v) = p
-port_of (Recv p) = p
 
 -- the port of the case that fired, if one did
 abbrev pub fired_port : List Case → What → Option Port

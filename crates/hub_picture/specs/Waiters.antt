@@ -14,7 +14,7 @@ use Rattle.hub_picture.specs.declared.waiters.Side.{Side}
 use Rattle.hub_picture.specs.declared.waiters.Side.TheVariants.{Sends, Receives}
 use Rattle.hub_picture.specs.declared.waiters.Waiter.{Waiter}
 use Rattle.hub_picture.specs.Levels.{after, empty}
-use Rattle.hub_picture.specs.Moves.{port_of}
+use Rattle.hub_base.specs.Ready.{port_of}
 
 -- how many values passed this side of a port
 abbrev pub count_on : Side → Level → ℕ

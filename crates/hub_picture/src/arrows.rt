@@ -1,6 +1,6 @@
 //! Values on their way: the arrows of a drawing.
 
-ghost use Rattle.std.specs.Prelude.{◌≡◌, ◌<◌, ◌≤◌, ◌++◌, ◌∷◌, [], drop, is_some, length, IfNone, IfOk, IfSome, OnOk, Some};
+ghost use Rattle.std.specs.Prelude.{◌≡◌, ◌++◌, ◌∷◌, [], drop, is_some, IfNone, IfOk, IfSome, OnOk, Some};
 ghost use Rattle.hub_base.specs.Values.{got_on, sent_on};
 ghost use Rattle.hub_picture.specs.Drawings.{all_arrows, arrows_on};
 ghost use Rattle.hub_picture.specs.Moves.{IsNextSent};
@@ -9,7 +9,7 @@ ghost use Rattle.hub_story.specs.Passing.{moved_by, passages, sends};
 
 use crate::Window;
 use crate::moves::{Moves, OnPort};
-use hub_base::{Case, Outcome, Port, Value, What};
+use hub_base::{Case, Outcome, Port, What};
 use hub_core::ShortEntries;
 use hub_story::{Moved, Passage, Told};
 use std::alloc::{AllocError, Global};
@@ -23,87 +23,56 @@ pub struct Arrow {
     pub passage: Passage,
 }
 
-/// The value that a case sent on the port, by its outcome.
-fn sent_on(port: Port, case: Case, outcome: Outcome) -> Option<Value>
-    ensures { result ≡ sent_on port (Some case) outcome }
-{
-    match (case, outcome) {
-        (Case::Send(on, value), Outcome::Sent) if on.0 == port.0 => Some(value),
-        _ => None,
-    }
-}
-
-/// The value that a case received from the port, by its outcome.
-fn got_on(port: Port, case: Case, outcome: Outcome) -> Option<Value>
-    ensures { result ≡ got_on port (Some case) outcome }
-{
-    match (case, outcome) {
-        (Case::Recv(on), Outcome::Got(value)) if on.0 == port.0 => Some(value),
-        _ => None,
-    }
-}
-
 /// The send on the port that is told so.
 fn sent_by(entries: &ShortEntries, port: Port, told: &Told) -> Option<Moved>
     ensures { result ≡ moved_by (sent_on port) entries.now told.now }
-{
-    let What::Fired { case, outcome } = told.event.what else {
-        return None;
-    };
-    let case = entries.case_at(told.asked as usize, case)?;
-    let value = sent_on(port, case, outcome)?;
-    Some(Moved { told: *told, value })
-}
-
-/// The receive from the port that is told so.
-fn got_by(entries: &ShortEntries, port: Port, told: &Told) -> Option<Moved>
-    ensures { result ≡ moved_by (got_on port) entries.now told.now }
-{
-    let What::Fired { case, outcome } = told.event.what else {
-        return None;
-    };
-    let case = entries.case_at(told.asked as usize, case)?;
-    let value = got_on(port, case, outcome)?;
-    Some(Moved { told: *told, value })
-}
-
-/// Whether it tells of a send on the port.
-fn is_sent(entries: &ShortEntries, port: Port, told: &Told) -> bool
-    ensures { result ≡ is_some (moved_by (sent_on port) entries.now told.now) }
 {
     let What::Fired {
         case,
         outcome: Outcome::Sent,
     } = told.event.what
     else {
-        return false;
+        return None;
     };
-    match entries.case_at(told.asked as usize, case) {
-        Some(Case::Send(on, _value)) => on.0 == port.0,
-        _ => false,
+    match entries.case_at(told.asked as usize, case)? {
+        Case::Send(on, value) if on.0 == port.0 => Some(Moved { told: *told, value }),
+        _ => None,
     }
+}
+
+/// The receive from the port that is told so.
+fn got_by(entries: &ShortEntries, port: Port, told: &Told) -> Option<Moved>
+    ensures { result ≡ moved_by (got_on port) entries.now told.now }
+{
+    let What::Fired {
+        case,
+        outcome: Outcome::Got(value),
+    } = told.event.what
+    else {
+        return None;
+    };
+    match entries.case_at(told.asked as usize, case)? {
+        Case::Recv(on) if on.0 == port.0 => Some(Moved { told: *told, value }),
+        _ => None,
+    }
+}
+
+/// Whether it tells of a send on the port.
+fn is_sent(entries: &ShortEntries, port: Port, told: &Told) -> bool
+    ensures { result ≡ is_some (moved_by (sent_on port) entries.now told.now) }
+{
+    sent_by(entries, port, told).is_some()
 }
 
 /// Whether it tells of a receive from the port.
 fn is_got(entries: &ShortEntries, port: Port, told: &Told) -> bool
     ensures { result ≡ is_some (moved_by (got_on port) entries.now told.now) }
 {
-    let What::Fired {
-        case,
-        outcome: Outcome::Got(_value),
-    } = told.event.what
-    else {
-        return false;
-    };
-    match entries.case_at(told.asked as usize, case) {
-        Some(Case::Recv(on)) => on.0 == port.0,
-        _ => false,
-    }
+    got_by(entries, port, told).is_some()
 }
 
 /// Where the next send on the port is told, from this place on.
 fn next_sent(entries: &ShortEntries, port: Port, told: &OnPort<'_>, from: usize) -> Option<usize>
-    ensures within { IfSome result (λ place. place < length told.now) }
     ensures found { IfSome result (λ place. IsNextSent entries.now port told.now from place) }
     ensures none { IfNone result (sends entries.now (drop from told.now) port ≡ []) }
 {

@@ -35,7 +35,8 @@ pub struct Drawing {
     pub waiters: Vec<Waiter>,
 }
 
-/// The drawing of a journal by its story, as far as the window shows it. `Err` where memory was refused.
+/// The drawing of a journal by its story, as far as the window shows it. `Err` where memory was refused; 2^32 events or more
+/// are taken for that.
 pub fn drawing_of(
     alloc: Global,
     journal: &ShortJournal,
@@ -45,10 +46,10 @@ pub fn drawing_of(
     requires few { length journal.now.entries < 2 ^ 32 - 1 }
     ensures { IfOk result (λ drawing. IsDrawingOf journal.now story.now window drawing) }
 {
-    let entries = journal.entries();
+    let shown = window.within(journal.entries().len() as u32);
     let mut drawing = Drawing {
         procs: journal.head().procs,
-        window: window.within(entries.len() as u32),
+        window: shown,
         lanes: Vec::new(alloc),
         strips: Vec::new(alloc),
         boxes: Vec::new(alloc),
@@ -58,6 +59,6 @@ pub fn drawing_of(
         stalls: Vec::new(alloc),
         waiters: Vec::new(alloc),
     };
-    put_shapes(&mut drawing, alloc, window, journal, story)?;
+    put_shapes(&mut drawing, alloc, shown, journal, story)?;
     Ok(drawing)
 }

@@ -2,7 +2,7 @@
 
 ghost use Rattle.std.specs.Prelude.{◌≡◌, ◌<◌, ◌≤◌, ◌+◌, ◌-◌, ◌^◌, ◌∷◌, ◌++◌, [], filter, IfOk, OnOk};
 ghost use Rattle.std.specs.List.{flat_map};
-ghost use Rattle.hub_picture.specs.Levels.{after, empty, is_same, levels_on, rows_from, shows_level, with_case};
+ghost use Rattle.hub_picture.specs.Levels.{after, empty, in_row, is_same, levels_on, rows_from, shows_level, with_case};
 
 use crate::moves::{Moves, OnPort};
 use crate::{Strip, Window};
@@ -124,6 +124,13 @@ fn add_levels(
     add_shown(levels, window, held)
 }
 
+/// The strip, in this row.
+fn in_row(row: usize, strip: &Strip) -> Strip
+    ensures { result ≡ in_row row strip.now }
+{
+    Strip { row, ..*strip }
+}
+
 /// The strips that are shown, and the levels on them.
 #[derive(Drop)]
 pub(crate) struct Levels {
@@ -150,7 +157,7 @@ pub(crate) fn levels_in(
     let mut held = Vec::new(alloc);
     for one in made {
         let row = strips.len();
-        let strip = Strip { row, ..*one };
+        let strip = in_row(row, one);
         let before = held.len();
         let told = moves.on(strip.port);
         add_levels(&mut held, window, moves.entries, &told, strip)?;

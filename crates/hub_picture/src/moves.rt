@@ -6,23 +6,13 @@ ghost use Rattle.std.specs.Prelude.{◌≡◌, ◌<◌, ◌++◌, [], filter, le
 ghost use Rattle.hub_base.specs.declared.value.Port.{Port as PortNumber};
 ghost use Rattle.hub_story.specs.OfPorts.{things_on};
 ghost use Rattle.hub_picture.specs.Drawings.{makes_port};
-ghost use Rattle.hub_picture.specs.Moves.{StandAt, is_told_on, place_on, port_of, port_told};
+ghost use Rattle.hub_picture.specs.Moves.{StandAt, is_told_on, place_on, port_told};
 
-use hub_base::{Case, MOST_PORTS, Port, What};
+use hub_base::{MOST_PORTS, Port, What};
 use hub_core::ShortEntries;
 use hub_story::{ByPort, Told};
 use std::alloc::{AllocError, Global};
 use std::marker::Model;
-
-/// The port of a case.
-pub(crate) fn port_of(case: Case) -> Port
-    ensures { result ≡ port_of case }
-{
-    match case {
-        Case::Send(port, _value) => port,
-        Case::Recv(port) => port,
-    }
-}
 
 /// The port of the case that fired, if one did.
 fn port_told(entries: &ShortEntries, told: &Told) -> Option<Port>
@@ -30,7 +20,7 @@ fn port_told(entries: &ShortEntries, told: &Told) -> Option<Port>
 {
     match told.event.what {
         What::Fired { case, .. } => match entries.case_at(told.asked as usize, case) {
-            Some(case) => Some(port_of(case)),
+            Some(case) => Some(case.port()),
             None => None,
         },
         _ => None,

@@ -2,10 +2,9 @@
 //! is refused has nothing of it to drop.
 
 ghost use Rattle.std.specs.Prelude.{◌≡◌, ◌<◌, ◌-◌, ◌^◌, IfOk, OnOk, length};
-ghost use Rattle.hub_picture.specs.Drawings.{IsDrawingOf};
+ghost use Rattle.hub_picture.specs.Drawings.{IsDrawnIn};
 ghost use Rattle.hub_picture.specs.Levels.{all_levels, all_strips, shown_strips};
 ghost use Rattle.hub_picture.specs.Shapes.{HasAsked, HasMoved};
-ghost use Rattle.hub_story.specs.Windows.{within};
 
 use crate::arrows::arrows_in;
 use crate::asked::{Shown, asked_in};
@@ -88,8 +87,8 @@ pub(crate) fn put_shapes(
 ) -> Result<(), AllocError>
     requires few { length journal.now.entries < 2 ^ 32 - 1 }
     requires procs { drawing.old.procs ≡ journal.now.head.procs }
-    requires window { drawing.old.window ≡ within window (length journal.now.entries) }
-    ensures { OnOk result (IsDrawingOf journal.now story.now window drawing.new) }
+    requires window { drawing.old.window ≡ window }
+    ensures { OnOk result (IsDrawnIn window journal.now story.now drawing.new) }
 {
     put_asked(drawing, alloc, window, journal, story)?;
     let moves = Moves::new(alloc, journal.entries(), &story.told)?;

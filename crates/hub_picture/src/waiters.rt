@@ -8,7 +8,7 @@ ghost use Rattle.hub_picture.specs.Waiters.{waiters_of, waits_for};
 
 use crate::Window;
 use crate::levels::{after, empty};
-use crate::moves::{Moves, OnPort, port_of};
+use crate::moves::{Moves, OnPort};
 use hub_base::{Case, MOST_PORTS, Port};
 use hub_core::ShortEntries;
 use hub_story::{Level, Told};
@@ -148,7 +148,7 @@ fn waits_for(standing: &Standing<'_>, call: &Told, case: Case) -> Waiter
     ensures { let moves = standing.now.moves.now in
         result ≡ waits_for moves.entries.now moves.told.now standing.now.step call.now case }
 {
-    let lasts = lasts_at(standing, port_of(case));
+    let lasts = lasts_at(standing, case.port());
     Waiter {
         told: *call,
         case,

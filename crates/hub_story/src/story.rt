@@ -30,7 +30,7 @@ pub struct Story {
 }
 
 /// The story of a journal of 1 to `MOST_PROCS` processes. Its entries are stepped once, and none is copied; the journal
-/// need not be legal. `Err` where memory was refused.
+/// need not be legal. `Err` where memory was refused; 2^32 events or more are taken for that.
 pub fn story_of(alloc: Global, journal: &ShortJournal) -> Result<Story, NoMemory>
     requires head { IsHead journal.now.head }
     requires few { length journal.now.entries < 2 ^ 32 - 1 }

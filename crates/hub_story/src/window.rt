@@ -1,7 +1,7 @@
 //! Which steps of a journal are shown.
 
 ghost use Rattle.std.specs.Prelude.{◌≡◌};
-ghost use Rattle.hub_story.specs.Windows.{goes_on, has, touches, within};
+ghost use Rattle.hub_story.specs.Windows.{goes_on, has, has_any, touches, within};
 
 /// Steps of a journal, counted from 0.
 #[derive(Clone, Copy)]
@@ -20,20 +20,27 @@ impl Window {
         self.first <= place && place < self.end
     }
 
-    /// Whether it has a step of what goes on from one place until another.
+    /// Whether it has any step.
+    fn has_any(self) -> bool
+        ensures { result ≡ has_any self }
+    {
+        self.first < self.end
+    }
+
+    /// Whether it has a step of what goes on from one place until another, which is no earlier.
     pub fn touches(self, from: u32, until: u32) -> bool
         ensures { result ≡ touches self from until }
     {
-        from < self.end && self.first <= until
+        self.has_any() && from < self.end && self.first <= until
     }
 
-    /// Whether it shows what goes on from one place until another, or still.
+    /// Whether it shows what goes on from one place until another, or still: it has a step of it, and that lasts.
     pub fn shows(self, from: u32, until: Option<u32>) -> bool
         ensures { result ≡ goes_on self from until }
     {
         match until {
             Some(until) => from < until && self.touches(from, until),
-            None => from < self.end,
+            None => self.has_any() && from < self.end,
         }
     }
 

@@ -2,7 +2,7 @@ use Rattle.std.proofs.Common.{◌<◌, ◌≤◌, ◌∙◌, ap, sym, arith, len
 use Rattle.std.proofs.lemmas.Option.{get_or_from_slice_get}
 use Rattle.hub_base.specs.Values.{got_on, sent_on}
 use Rattle.hub_story.specs.Passing.{moved_by}
-use Rattle.hub_picture.proofs.ArrowsLeft.{moved-next, moved-none, next-arrow, no-receive-left, none-moved, same-arrows, some-moved}
+use Rattle.hub_picture.proofs.ArrowsLeft.{is-none, is-some, moved-next, moved-none, next-arrow, no-receive-left, same-arrows}
 use Rattle.hub_picture.proofs.arrows.add_arrows.Goals.{then-is_got+in-Some+in_ok-add_arrow, else-is_got}
 use Rattle.hub_picture.proofs.arrows.add_arrows.Goals as goal
 
@@ -16,7 +16,7 @@ loop-place-preserved c =
     let below : so.place < length ts = omega (arith, c.loop-place-test.true, c.len-place-end.ensures) in
     elim c.if-is_got.branch [
       | then-is_got+in-Some+in_ok-add_arrow w ↦
-          let received = some-moved (moved_by (got_on p) es here) (sym c.is_got.ensures ∙ w.if-is_got.true) in
+          let received = is-some (moved_by (got_on p) es here) (sym c.is_got.ensures ∙ w.if-is_got.true) in
           let next = rw w.in-Some.is at w.next_sent.ensures.found in
           let at = w.at.ensures ∙ get_or_from_slice_get ts w.in-Some.sent next.told w.at.result.now next.at in
           rw (w.arrows-is, w.from-is)
@@ -25,7 +25,7 @@ loop-place-preserved c =
           (moved-next (got_on p) es ts so.place here (Some received.0) below (sym received.1 ∙ ap (moved_by (got_on p) es) c.at-received.ensures))
           so.invariant)
       | else-is_got w ↦
-          let none = none-moved (moved_by (got_on p) es here) (sym c.is_got.ensures ∙ w.if-is_got.false) in
+          let none = is-none (moved_by (got_on p) es here) (sym c.is_got.ensures ∙ w.if-is_got.false) in
           rw (w.arrows-is, w.from-is)
           (same-arrows c.args.window p so.arrows.items _ _ _ _
           (moved-next (got_on p) es ts so.place here None below (sym none ∙ ap (moved_by (got_on p) es) c.at-received.ensures)) so.invariant)

@@ -2,7 +2,7 @@ use Rattle.std.proofs.Common.{◌<◌, ◌≤◌, ◌∙◌, ap, arith, length, 
 use Rattle.std.proofs.lemmas.Option.{slice_get-get_or}
 use Rattle.hub_base.specs.Values.{sent_on}
 use Rattle.hub_story.specs.Passing.{moved_by}
-use Rattle.hub_picture.proofs.ArrowsLeft.{moved-next, moved-none, none-moved, some-moved}
+use Rattle.hub_picture.proofs.ArrowsLeft.{is-none, is-some, moved-next, moved-none}
 use Rattle.hub_picture.proofs.arrows.next_sent.Goals as goal
 
 pub returns-then-is_sent-clause-found : goal.returns-then-is_sent-clause-found
@@ -13,7 +13,7 @@ returns-then-is_sent-clause-found c =
     let i = c.loop-place.place in
     let here = c.at.result.now in
     let below : i < length ts = omega (arith, c.loop-place-test.true, c.len-place-end.ensures) in
-    let sent = some-moved (moved_by pick es here) (sym c.is_sent.ensures ∙ c.if-is_sent.true) in
+    let sent = is-some (moved_by pick es here) (sym c.is_sent.ensures ∙ c.if-is_sent.true) in
     record {
       told = here;
       sent = sent.0;
@@ -32,7 +32,7 @@ loop-place-preserved c =
     let i = c.loop-place.place in
     let here = c.at.result.now in
     let below : i < length ts = omega (arith, c.loop-place-test.true, c.len-place-end.ensures) in
-    let none = none-moved (moved_by pick es here) (sym c.is_sent.ensures ∙ c.if-is_sent.false) in
+    let none = is-none (moved_by pick es here) (sym c.is_sent.ensures ∙ c.if-is_sent.false) in
     c.loop-place.invariant ∙ moved-next pick es ts i here None below (sym none ∙ ap (moved_by pick es) c.at.ensures)
 
 pub returns-clause-none : goal.returns-clause-none

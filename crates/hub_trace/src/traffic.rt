@@ -19,10 +19,10 @@ use std::alloc::{AllocError, Global};
 /// A value that moved through a port.
 #[derive(Clone, Copy)]
 pub(crate) struct Moved {
+    /// By which step. It stands first, so that a value takes 8 bytes.
+    pub(crate) by: u32,
     /// Who sent or received it.
     pub(crate) pid: Pid,
-    /// By which step.
-    pub(crate) by: u32,
     /// In which direction.
     pub(crate) way: Way,
 }
@@ -38,8 +38,8 @@ fn note(all: &mut ByPort<Moved>, entries: &ShortEntries, told: &Told) -> Result<
     all.push(
         moved.port,
         Moved {
-            pid: told.event.pid,
             by: told.by,
+            pid: told.event.pid,
             way: moved.way,
         },
     )

@@ -1,10 +1,11 @@
 -- A value and what it says.
-use Rattle.std.proofs.Common.{◌≡◌, ℕ, suc, ◌+◌, ◌-◌, ◌≤◌, ◌<◌, true, List, [], ◌∷◌, ◌++◌, length, drop, replicate}
+use Rattle.std.proofs.Common.{◌≡◌, ℕ, suc, ◌+◌, ◌-◌, ◌≤◌, ◌<◌, true, List, [], ◌∷◌, ◌++◌, length, take, drop, replicate}
 use Rattle.std.proofs.Common.{Some, None, refl, ap, ◌∙◌, sym, subst, arith, add-one}
 use Rattle.std.proofs.lemmas.Bool.{and_parts, eqb-true, leb-true, le-leb}
 use Rattle.std.proofs.lemmas.Bool.Decides.{nat_tests}
 use Rattle.std.proofs.lemmas.Grind.{common_steps}
-use Rattle.std.proofs.lemmas.List.{append-nil, drop-replicate}
+use Rattle.std.proofs.lemmas.List.{drop-replicate, take-append-drop}
+use Rattle.std.proofs.lemmas.Option.{none-some, same_Some}
 use Rattle.std.proofs.lemmas.Slice.Eq.{bytes_eq-Decides}
 use Rattle.std.proofs.Math.Bool.{Bool-set}
 use Rattle.std.specs.Int.{to_le_bytes, w64}
@@ -27,9 +28,10 @@ zeros_behind bs = drop-replicate {X = ℕ} (length bs) MOST_VALUE_BYTES 0
 pub padded_is : (bs first tail : List ℕ) → first ≡ bs → tail ≡ replicate (MOST_VALUE_BYTES - length bs) 0 → first ++ tail ≡ padded bs
 padded_is bs first tail is zeros = ap (λ xs. xs ++ tail) is ∙ ap (λ ys. bs ++ ys) zeros
 
--- behind bytes that fill their places there is none
-pub full_is : (bs places : List ℕ) → length bs ≡ MOST_VALUE_BYTES → places ≡ bs → places ≡ padded bs
-full_is bs places count is = is ∙ sym (ap (λ n. bs ++ replicate (MOST_VALUE_BYTES - n) 0) count ∙ append-nil bs)
+-- the first of some places, where zeros are behind them
+pub first_is : (n : ℕ) (places bs : List ℕ) → bs ≡ take n places → length bs ≡ n → drop n places ≡ replicate (MOST_VALUE_BYTES - n) 0 → places ≡ padded bs
+first_is n places bs is count zeros =
+    sym (take-append-drop n places) ∙ padded_is bs (take n places) (drop n places) (sym is) (zeros ∙ ap (λ k. replicate (MOST_VALUE_BYTES - k) 0) (sym count))
 
 -- ---- what can be said, as a fact and as a test
 byte-below : (b : ℕ) → b < 256 → nat_lt b 256 ≡ true
@@ -82,9 +84,8 @@ is-stored c form places fits kind all = (λ i. is_stored (kind i) (all i)) ∙ s
 pub number-stored : (n : ℕ) (places : List ℕ) → n ≤ GREATEST_VALUE → places ≡ padded (to_le_bytes w64 n) → is_stored 0 places ≡ true
 number-stored n places small all = is-stored (Num n) 0 places small refl all
 
-pub bytes-stored : (bs : List ℕ) (n : ℕ) (places : List ℕ) → length bs ≤ MOST_VALUE_BYTES → IsBytes bs → length bs ≡ n → places ≡ padded bs
-    → is_stored (n + 1) places ≡ true
-bytes-stored bs n places few bytes count all = is-stored (Bytes bs) (n + 1) places (few, bytes) (ap (λ k. k + 1) (sym count)) all
+pub bytes-stored : (bs : List ℕ) (n : ℕ) (places : List ℕ) → IsContent (Bytes bs) → length bs ≡ n → places ≡ padded bs → is_stored (n + 1) places ≡ true
+bytes-stored bs n places fits count all = is-stored (Bytes bs) (n + 1) places fits (ap (λ k. k + 1) (sym count)) all
 
 -- the value that says this says it
 pub content-saying : (c : Content) → IsContent c → content (saying c) ≡ c
@@ -141,6 +142,16 @@ count_of_bytes v = ap (λ k. k - 1) (stored-parts v.form v.bytes v.stored).kind 
 pub number_is : (n : ℕ) (places : List ℕ) (is : is_stored 0 places ≡ true) → n ≤ GREATEST_VALUE → places ≡ padded (to_le_bytes w64 n)
     → formed 0 places is ≡ value_of n
 number_is n places is small all = saying_is (Num n) 0 places is small refl all
+
+-- a value that says a number is that number's
+pub number_again : (v : Value) (n : ℕ) → number_in (content v) ≡ Some n → value_of n ≡ v
+number_again v n is = by (content v) refl
+  where
+    by : (c : Content) → c ≡ content v → value_of n ≡ v
+    by (Num m) said =
+        let same : m ≡ n = same_Some m n (ap number_in said ∙ is) in
+        ap (λ k. saying (Num k)) (sym same) ∙ ap saying said ∙ (every_value v).one
+    by (Bytes bs) said = absurd (none-some n (ap number_in said ∙ is))
 
 pub bytes_are : (bs : List ℕ) (n : ℕ) (places : List ℕ) (is : is_stored (n + 1) places ≡ true) → length bs ≡ n → places ≡ padded bs
     → formed (n + 1) places is ≡ bytes_of bs

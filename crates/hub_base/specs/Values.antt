@@ -1,8 +1,9 @@
 -- What was sent and received on a port, told from entries and events alone: the values of the sends
 -- that were answered `Sent`, and those of the receives that were answered `Got`, in order of the
 -- answers.
-use Rattle.std.specs.Prelude.{◌==◌, Bool, true, false, List, [], ◌∷◌, ◌++◌, Option, None, Some, slice_get, if◌then◌else◌}
+use Rattle.std.specs.Prelude.{◌==◌, ℕ, Bool, true, false, List, [], ◌∷◌, ◌++◌, Option, None, Some, slice_get, if◌then◌else◌}
 use Rattle.std.specs.List.{filter_map}
+use Rattle.std.specs.Option.{option_map_or}
 use Rattle.hub_base.specs.declared.value.Pid.{Pid}
 use Rattle.hub_base.specs.declared.value.Port.{Port}
 use Rattle.hub_base.specs.declared.value.Value.{Value}
@@ -69,6 +70,10 @@ cases_or (Call cases default word) before = cases.items
 cases_or (Close p) before = before
 cases_or Exit before = before
 cases_or (Cancel q) before = before
+
+-- the cases of the entry at this place; none where it is no call
+abbrev pub cases_at : List Entry → ℕ → List Case
+cases_at es place = option_map_or (λ e. cases_or e.step []) (slice_get es place) []
 
 -- the cases of the last call of a process that was not refused, after this turn
 abbrev pub latest : Pid → List Case → Turned → List Case

@@ -9,8 +9,8 @@ use crate::limits::MOST_VALUE_BYTES;
 /// A value that a channel carries: a whole number of 64 bits, or 0 to `MOST_VALUE_BYTES` bytes. Only a journal of
 /// the second edition has values that are bytes.
 ///
-/// Only texts look inside it. A hub moves values and never reads one, so nothing that is proved of
-/// a hub depends on what a value is.
+/// Only texts look inside it, and buffers, which keep numbers in less room. A hub moves values and never reads one, so
+/// nothing that is proved of a hub depends on what a value is.
 #[derive(Clone, Copy, Debug, PartialEq, Eq)]
 pub struct Value {
     /// 0 for a number, and else one more than there are bytes.
@@ -23,8 +23,8 @@ pub struct Value {
 }
 
 impl Value {
-    ghost use Rattle.std.specs.Prelude.{◌+◌, ◌≤◌, ◌<◌, ◌↔◌, ℕ, List, IfSome, IsNone, None, length, slice_get};
-    ghost use Rattle.hub_base.specs.Content.{padded};
+    ghost use Rattle.std.specs.Prelude.{◌-◌, ◌≤◌, ◌<◌, ◌↔◌, IfSome, IsNone, None, length, take, drop, replicate, slice_get};
+    ghost use Rattle.hub_base.specs.Content.{IsContent, padded};
     ghost use Rattle.hub_base.specs.Content.Content.{Num, Bytes};
     ghost use Rattle.hub_base.specs.Head.{has_value};
     ghost use Rattle.hub_base.specs.Value.{content, value_of, bytes_of, number_in, bytes_in};
@@ -48,6 +48,17 @@ impl Value {
         }
     }
 
+    /// The value that is this number, as `num` gives it. Its eight bytes are copied at once, which is cheaper where the number comes
+    /// from memory and the value goes there.
+    #[inline(always)]
+    pub fn num_at_once(number: u64) -> Value
+        ensures { result ≡ value_of number }
+    {
+        let mut bytes = [0; MOST_VALUE_BYTES];
+        bytes[..8].copy_from_slice(&number.to_le_bytes());
+        Value { form: 0, bytes }
+    }
+
     /// The value that is these bytes; `None` where they are more than `MOST_VALUE_BYTES`.
     pub fn bytes(bytes: &[u8]) -> Option<Value>
         ensures is { IfSome result (λ v. v ≡ bytes_of bytes.now) }
@@ -66,22 +77,37 @@ impl Value {
         Some(Value::of_places(bytes.len(), places))
     }
 
-    /// The value that is the first of these bytes, where zeros stand behind them.
-    #[inline]
-    fn of_places(len: usize, places: [u8; MOST_VALUE_BYTES]) -> Value
+    /// The value that is the first `len` of these bytes, which may be all. The others must be zeros.
+    #[inline(always)]
+    pub fn of_places(len: usize, places: [u8; MOST_VALUE_BYTES]) -> Value
         requires few { len ≤ MOST_VALUE_BYTES }
-        requires stored { is_stored (len + 1) places ≡ true }
-        ensures { (bs : List ℕ) → length bs ≡ len → places ≡ padded bs → result ≡ bytes_of bs }
+        requires zeros { drop len places ≡ replicate (MOST_VALUE_BYTES - len) 0 }
+        ensures is { result ≡ bytes_of (take len places) }
+        ensures says { content result ≡ Bytes (take len places) }
     {
+        let form = Value::first(len, &places).len() as u8 + 1;
         Value {
-            form: len as u8 + 1,
+            form,
             bytes: places,
         }
     }
 
+    /// The first `len` of these bytes, which may be all.
+    #[inline(always)]
+    fn first(len: usize, places: &[u8; MOST_VALUE_BYTES]) -> &[u8]
+        requires { len ≤ MOST_VALUE_BYTES }
+        ensures bytes { result.now ≡ take len places.now }
+        ensures count { length result.now ≡ len }
+        ensures fits { IsContent (Bytes result.now) }
+    {
+        // Behind a reference a proof learns how many there are, and of a slice that each is less than 256.
+        &places.as_slice()[..len]
+    }
+
     /// The number that the value is, unless it is bytes.
     pub fn as_num(self) -> Option<u64>
-        ensures { result ≡ number_in (content self) }
+        ensures number { result ≡ number_in (content self) }
+        ensures is { IfSome result (λ n. value_of n ≡ self) }
     {
         if self.form != 0 {
             return None;

@@ -12,26 +12,11 @@ use Rattle.hub_base.specs.declared.entry.Step.TheVariants.{Call}
 use Rattle.hub_base.specs.Values.{cases_or}
 use Rattle.arrayvec.specs.ArrayVec.{ArrayVec}
 use Rattle.hub_base.specs.declared.limits.TheConstants.{CASE_PLACES}
-use Rattle.hub_base.specs.declared.value.Value.{Value}
-use Rattle.hub_base.specs.Content.{Content}
-use Rattle.hub_base.specs.Content.Content.{Num, Bytes}
-use Rattle.hub_base.specs.Value.{content, number_in, saying, value_of}
-use Rattle.hub_base.proofs.Values.{every_value}
 use Rattle.hub_core.specs.declared.brief.Brief.{Brief}
 use Rattle.hub_core.specs.declared.brief.Brief.TheVariants as brief
 use Rattle.hub_core.specs.declared.log.Log.TheInside.{Inside}
 use Rattle.hub_core.specs.LogKeeps.{log_shown}
 use Rattle.hub_core.specs.LogView.{AreBriefs, LogView, BeginsAt, IsBriefOf, IsWhole, StandFrom, case_count, cases_beside, entry_of, first_of, own_of, written}
-
--- a value that is a number
-pub number_again : (v : Value) (n : ℕ) → number_in (content v) ≡ Some n → value_of n ≡ v
-number_again v n is = by (content v) refl
-  where
-    by : (c : Content) → c ≡ content v → value_of n ≡ v
-    by (Num m) said =
-        let same : m ≡ n = same_Some m n (ap number_in said ∙ is) in
-        ap (λ k. saying (Num k)) (sym same) ∙ ap saying said ∙ (every_value v).one
-    by (Bytes bs) said = absurd (none-some n (ap number_in said ∙ is))
 
 -- its cases, with where they stand
 pub record Own (b : Brief) (n : ℕ) (all : List Case) : Type 0 where

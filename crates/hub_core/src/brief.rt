@@ -4,8 +4,9 @@ ghost use Rattle.std.specs.Prelude.{◌≡◌, ◌≤◌, ◌+◌, ◌++◌, ◌
 ghost use Rattle.std.specs.Vec.{vec_capacity};
 ghost use Rattle.hub_base.specs.declared.limits.TheConstants.{CASE_PLACES};
 ghost use Rattle.hub_base.specs.Lines.{by, call};
+ghost use Rattle.hub_base.specs.Values.{cases_at};
 ghost use Rattle.hub_core.specs.LogView.{AreBriefs, IsBriefOf, IsWhole, StandFrom};
-ghost use Rattle.hub_core.specs.LogView.{case_count, cases_beside, entry_of, first_of, own_of, written};
+ghost use Rattle.hub_core.specs.LogView.{case_count, cases_beside, cases_of, entry_of, first_of, own_of, written};
 
 use hub_base::{Case, CaseSlice, Entry, EntryRef, Pid, Port, Step, Value};
 
@@ -185,6 +186,23 @@ impl Brief {
         own
     }
 
+    /// The case of this number of its entry, if it has one; `cases` are those of all entries. No entry is made for it.
+    fn case(self, cases: &[Case], number: u8) -> Option<Case>
+        requires { first_of self + case_count self ≤ length cases.now }
+        ensures { result ≡ slice_get (cases_of (entry_of self (own_of self cases.now))) number }
+    {
+        match self {
+            Brief::Send {
+                port,
+                number: sent,
+                ..
+            } if number == 0 => Some(Case::Send(port, Value::num(sent))),
+            Brief::Recv { port, .. } if number == 0 => Some(Case::Recv(port)),
+            Brief::Call { .. } => self.own(cases).get(usize::from(number)).copied(),
+            _ => None,
+        }
+    }
+
     /// Its entry, with these cases where they are not kept with it. The case of a call that has one is put in the place for
     /// it.
     fn by_slice<'a>(self, cases: &'a [Case], one: &'a mut Case) -> EntryRef<'a>
@@ -273,4 +291,16 @@ pub(crate) fn short_at<'a>(
         return None;
     };
     Some(brief.by_slice(brief.own(cases), one))
+}
+
+/// The case of this number of the entry at this place of those that are kept short, if there is one.
+pub(crate) fn short_case(briefs: &[Brief], cases: &[Case], place: usize, number: u8) -> Option<Case>
+    requires briefs { AreBriefs briefs.now cases.now }
+    requires begin { StandFrom 0 briefs.now }
+    ensures { result ≡ slice_get (cases_at (written briefs.now cases.now) place) number }
+{
+    let Some(brief) = briefs.get(place) else {
+        return None;
+    };
+    brief.case(cases, number)
 }

@@ -84,7 +84,7 @@ impl CountedBoard {
                 tell(events, receiver.pid, receiver.index, Outcome::Got(*value));
             }
             None => {
-                self.board.push(port, *value);
+                self.board.push(port, value);
                 self.tallies.count(port, Carried::Sent);
                 tell(events, caller.pid, caller.index, Outcome::Sent);
             }
@@ -108,7 +108,7 @@ impl CountedBoard {
         // A sender waits only where the buffer is full, or where there is none: its value takes the place of the oldest.
         match self.board.pop(port) {
             Some(oldest) => {
-                self.board.push(port, *sent);
+                self.board.push(port, sent);
                 tell(events, caller.pid, caller.index, Outcome::Got(oldest));
                 tell(events, sender.pid, sender.index, Outcome::Sent);
             }

@@ -1,12 +1,11 @@
 //! Entries that are kept short.
 
 ghost use Rattle.std.specs.Prelude.{◌≡◌, ◌<◌, ◌+◌, ◌++◌, ◌∷◌, [], IfOk, OnOk, Some, length, slice_get};
-ghost use Rattle.std.specs.Option.{option_map_or};
-ghost use Rattle.hub_base.specs.Values.{cases_or};
+ghost use Rattle.hub_base.specs.Values.{cases_at};
 ghost use Rattle.hub_core.specs.LogView.{AreBriefs, StandFrom, written};
 
 use crate::beside::append_cases;
-use crate::brief::{Brief, brief_of, cases_beside, short_at, write_out};
+use crate::brief::{Brief, brief_of, cases_beside, short_at, short_case, write_out};
 use hub_base::{Case, Entry, EntryRef};
 use std::alloc::{AllocError, Global};
 use std::marker::Model;
@@ -52,7 +51,7 @@ impl ShortEntries {
         ShortEntries { briefs, cases }
     }
 
-    /// Appends an entry. An `Err` is memory.
+    /// Appends an entry. `Err` where memory was refused; 2^32 cases or more are taken for that.
     pub fn push(&mut self, entry: &EntryRef<'_>) -> Result<(), AllocError>
         ensures { OnOk result (self.new ≡ self.old ++ entry.now ∷ []) }
     {
@@ -94,7 +93,7 @@ impl ShortEntries {
 
     /// The cases of the entry at this place, as `get` gives it; none where it is no call, and behind the last.
     pub fn cases_at<'a>(&'a self, place: usize, one: &'a mut Case) -> &'a [Case]
-        ensures { result.now ≡ option_map_or (λ e. cases_or e.step []) (slice_get self.now place) [] }
+        ensures { result.now ≡ cases_at self.now place }
     {
         match self.get(place, one) {
             Some(entry) => entry.step.cases(),
@@ -104,12 +103,9 @@ impl ShortEntries {
 
     /// The case of this number of the entry at this place, if there is one.
     pub fn case_at(&self, place: usize, number: u8) -> Option<Case>
-        ensures { result ≡ slice_get (option_map_or (λ e. cases_or e.step []) (slice_get self.now place) []) number }
+        ensures { result ≡ slice_get (cases_at self.now place) number }
     {
-        let mut one = Case::default();
-        self.cases_at(place, &mut one)
-            .get(usize::from(number))
-            .copied()
+        short_case(&self.briefs, &self.cases, place, number)
     }
 
     /// All of them, written out.

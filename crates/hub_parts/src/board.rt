@@ -216,16 +216,17 @@ impl Board {
     }
 
     /// Adds the newest value to the port's buffer. There must be room.
-    pub fn push(&mut self, port: Port, value: Value)
+    pub fn push(&mut self, port: Port, value: &Value)
         requires made { IsMade self.old port }
         requires room { length (port_at self.old port).buffer < (port_at self.old port).cap }
-        ensures { self.new ≡ with_port self.old port (pushed value (port_at self.old port)) }
+        ensures { self.new ≡ with_port self.old port (pushed value.now (port_at self.old port)) }
     {
         let channel = &mut self.ports[port.0 as usize - 1];
         channel.push(value);
     }
 
     /// Removes and gives the oldest value of the port's buffer.
+    #[inline(always)]
     pub fn pop(&mut self, port: Port) -> Option<Value>
         requires { IsMade self.old port }
         ensures oldest { result ≡ slice_get (port_at self.old port).buffer 0 }

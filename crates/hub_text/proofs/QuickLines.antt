@@ -191,7 +191,7 @@ decoded-push text start len places end high low ends so room high-small high-is 
       one-fewer = grind (arith, common_steps, twice 1 len places, so.behind, drop-replicate {X = ℕ} 1 (MOST_VALUE_BYTES - len) 0)
 
 -- the bytes that stand there are few
-pub decoded-few : (text : List ℕ) (start len : ℕ) (places : List ℕ) (end : ℕ) → Decoded text start len places end → length (take len places) ≤ MOST_VALUE_BYTES
+decoded-few : (text : List ℕ) (start len : ℕ) (places : List ℕ) (end : ℕ) → Decoded text start len places end → length (take len places) ≤ MOST_VALUE_BYTES
 decoded-few text start len places end so = let all = so.all in let few = so.few in grind (arith, common_steps)
 
 -- and the value that is these bytes stands there

@@ -169,10 +169,7 @@ fn bytes_at(bytes: &[u8], start: usize) -> (Value, usize)
         places[len] = byte;
         len += 1;
     }
-    match Value::bytes(&places[..len]) {
-        Some(value) => (value, first + 2 * len),
-        None => unreachable!(),
-    }
+    (Value::of_places(len, places), first + 2 * len)
 }
 
 /// The value that is a number and stands at this place, and the place behind it.

@@ -9,6 +9,7 @@ use std::process::Abort;
 fn values_are_numbers(rt: HostRuntime) {
     for number in [0, 7, u64::MAX] {
         same(&rt, Value::num(number).as_num(), Some(number), number);
+        same(&rt, Value::num_at_once(number), Value::num(number), number);
     }
 }
 
@@ -22,6 +23,23 @@ fn values_are_bytes(rt: HostRuntime) {
         }
     }
     same(&rt, Value::bytes(&[0; 33]), None, "33 bytes");
+}
+
+#[test]
+fn places_are_bytes(rt: HostRuntime) {
+    same(
+        &rt,
+        Some(Value::of_places(0, [0; 32])),
+        Value::bytes(b""),
+        "no bytes",
+    );
+    let most: [u8; 32] = *b"an even number of bytes, all 32.";
+    same(
+        &rt,
+        Some(Value::of_places(32, most)),
+        Value::bytes(&most),
+        "all bytes",
+    );
 }
 
 /// The value shows these bytes and no number, and is one of the second edition.

@@ -8,9 +8,9 @@ use Rattle.hub_text.proofs.event_lines.put_value.Goals as goal
 pub returns-in-Some : goal.returns-in-Some
 returns-in-Some c =
     subst (λ text. Puts c.args.out.now c.put_large.new.out c.args.at text MOST_VALUE c.put_large.result)
-    (sym (field_number _ c.in-Some.number (sym c.as_num.ensures ∙ c.in-Some.is))) (puts_within (omega arith) c.put_large.ensures)
+    (sym (field_number _ c.in-Some.number (sym c.as_num.ensures.number ∙ c.in-Some.is))) (puts_within (omega arith) c.put_large.ensures)
 
 pub returns-in-None : goal.returns-in-None
 returns-in-None c =
     subst (λ text. Puts c.args.out.now c.put_bytes.new.out c.args.at text MOST_VALUE c.put_bytes.result)
-    (sym (field_bytes _ (sym c.as_num.ensures ∙ c.in-None.is))) c.put_bytes.ensures
+    (sym (field_bytes _ (sym c.as_num.ensures.number ∙ c.in-None.is))) c.put_bytes.ensures

@@ -1,6 +1,6 @@
-use Rattle.std.proofs.Common.{◌≡◌, ◌<◌, ◌+◌, ◌*◌, ◌/◌, ◌%◌, ℕ, arith, refl, replicate, set, subst}
+use Rattle.std.proofs.Common.{◌≡◌, ◌<◌, ◌+◌, ◌*◌, ◌/◌, ◌%◌, ℕ, arith, replicate, set, subst}
 use Rattle.hub_base.specs.declared.limits.TheConstants.{MOST_VALUE_BYTES}
-use Rattle.hub_text.proofs.QuickLines.{Decoded, decoded-push, decoded-few, decoded-value, mark-stands}
+use Rattle.hub_text.proofs.QuickLines.{Decoded, decoded-push, decoded-value, mark-stands}
 use Rattle.hub_text.proofs.quick.bytes_at.Goals as goal
 
 pub loop-len-init : goal.loop-len-init
@@ -29,15 +29,11 @@ loop-len-preserved c =
       most = omega (arith, c.loop-len-test.true);
     }
 
-pub unreachable-requires : goal.unreachable-requires
-unreachable-requires c =
-    let so = c.loop-len in
-    let few = decoded-few c.args.bytes.now c.args.start so.len so.places (c.args.start + 1 + 2 * so.len) so.invariant.so_far in
-    let many = c.in-None.ensures.none.0 refl in
-    omega (arith, few, many)
+pub of_places-requires-clause-zeros : goal.of_places-requires-clause-zeros
+of_places-requires-clause-zeros c = c.loop-len.invariant.so_far.behind
 
 pub returns : goal.returns
 returns c edition has =
     let so = c.loop-len in
-    decoded-value edition c.args.bytes.now c.args.start so.len so.places (c.args.start + 1 + 2 * so.len) c.in-Some-bytes.value has so.invariant.so_far
-    c.in-Some-bytes.ensures.is
+    decoded-value edition c.args.bytes.now c.args.start so.len so.places (c.args.start + 1 + 2 * so.len) c.of_places.result has so.invariant.so_far
+    c.of_places.ensures.is

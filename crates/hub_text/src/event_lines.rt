@@ -18,10 +18,10 @@ use hub_base::{Event, Fault, MOST_VALUE_BYTES, Outcome, Port, Value, What};
 const MOST_SMALL: usize = 3;
 
 /// The most digits of a number of 64 bits.
-const MOST_DIGITS: usize = 20;
+pub(crate) const MOST_DIGITS: usize = 20;
 
 /// The most bytes of a value: `#`, and two digits for each byte that it is.
-pub const MOST_VALUE: usize = 1 + 2 * MOST_VALUE_BYTES;
+pub(crate) const MOST_VALUE: usize = 1 + 2 * MOST_VALUE_BYTES;
 
 /// The most bytes of how a communication ended: ` got ` and a value.
 const MOST_OUTCOME: usize = 70;
@@ -36,7 +36,7 @@ static PAIRS: [u8; 200] =
 
 /// Puts these bytes. Few bytes of a known number become a store or two, which a copy would not.
 #[inline(always)]
-fn put(out: &mut [u8], at: usize, bytes: &[u8]) -> usize
+pub(crate) fn put(out: &mut [u8], at: usize, bytes: &[u8]) -> usize
     requires { at + length bytes.now ≤ length out.old }
     ensures { Puts out.old out.new at bytes.now (length bytes.now) result }
 {
@@ -139,7 +139,7 @@ fn put_long(out: &mut [u8], at: usize, n: u64) -> usize
 
 /// Puts a number of up to 64 bits.
 #[inline(always)]
-fn put_large(out: &mut [u8], at: usize, n: u64) -> usize
+pub(crate) fn put_large(out: &mut [u8], at: usize, n: u64) -> usize
     requires { at + MOST_DIGITS ≤ length out.old }
     ensures { Puts out.old out.new at (decimal n) MOST_DIGITS result }
 {
@@ -195,7 +195,7 @@ pub fn put_bytes(out: &mut [u8], at: usize, value: &Value) -> usize
 
 /// Puts a value.
 #[inline(always)]
-fn put_value(out: &mut [u8], at: usize, value: &Value) -> usize
+pub(crate) fn put_value(out: &mut [u8], at: usize, value: &Value) -> usize
     requires { at + MOST_VALUE ≤ length out.old }
     ensures { Puts out.old out.new at (value_field value.now) MOST_VALUE result }
 {

@@ -5,6 +5,7 @@
 //! fields and their numbers. Writing goes in one pass.
 #![tactic(auto)]
 
+mod entry_fields;
 mod event_lines;
 mod event_text;
 mod fields;
@@ -25,4 +26,6 @@ pub use reader::{Reader, one_event_spelling, one_reading, one_spelling, read_jou
 pub use selects::read_case;
 pub use steps::same_text;
 pub use values::read_value;
-pub use writer::{undo_if_refused, write_entry, write_event, write_head, write_journal};
+pub use writer::{
+    undo_if_refused, write_entry, write_event, write_head, write_journal, write_value,
+};

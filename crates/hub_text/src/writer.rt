@@ -1,7 +1,7 @@
 //! Writing journals and events. A private function that is refused may leave a part behind, which
 //! the public one takes back.
 
-ghost use Rattle.std.specs.Prelude.{◌≡◌, ◌++◌, codes, decimal, OnOk, OnErr, IsOk, ◌↔◌, take, ◌≤◌, true};
+ghost use Rattle.std.specs.Prelude.{◌≡◌, ◌++◌, ◌∷◌, codes, decimal, length, OnOk, OnErr, IsOk, ◌↔◌, take, ◌≤◌, true};
 ghost use Rattle.hub_base.specs.EventText.{event_line, EventFits};
 ghost use Rattle.hub_base.specs.Lines.{case_field, select_fields, call_fields, step_fields, line};
 ghost use Rattle.std.specs.List.{flat_map};
@@ -12,13 +12,13 @@ ghost use Rattle.hub_text.specs.Writing.{Appends, spaced, spaced_cases, HasRoomF
 ghost use Rattle.hub_base.specs.Text.{Fits};
 ghost use Rattle.hub_base.specs.Value.{value_field};
 
-use crate::event_lines::{MOST_VALUE, put_bytes, put_event};
+use crate::entry_fields::{MOST_NUMBER, MOST_SEND, MOST_WORD, put_number, put_send};
+use crate::event_lines::{MOST_VALUE, put_event, put_value};
 use crate::limits::MOST_LINE;
 use hub_base::{
     Case, Edition, Entry, EntryRef, Event, Head, Journal, MOST_PROCS, NoMemory, Port, Step,
     StepRef, Value, What,
 };
-use itoa::Buffer;
 use std::alloc::AllocError;
 
 /// Appends these bytes.
@@ -29,53 +29,32 @@ fn put(out: &mut Vec<u8>, bytes: &[u8]) -> Result<(), AllocError>
     out.extend_from_slice(bytes)
 }
 
-/// Appends a number in decimal digits. Most have one: they number processes, ports and cases.
-#[tactic(auto, using(std::proofs::lemmas::Fmt::decimal_digit))]
-fn put_number(out: &mut Vec<u8>, n: u64) -> Result<(), AllocError>
-    ensures { Appends out.old out.new (decimal n) result }
-{
-    if n < 10 {
-        return put(out, &[b'0' + n as u8]);
-    }
-    let mut buffer = Buffer::new();
-    put(out, buffer.format(n).as_bytes())
-}
-
 /// Appends a word, or what else stands before a number, and the number.
+#[inline(always)]
 fn put_before_number(out: &mut Vec<u8>, before: &[u8], n: u64) -> Result<(), AllocError>
+    requires { length before.now ≤ MOST_WORD }
     ensures { Appends out.old out.new (before.now ++ decimal n) result }
 {
-    put(out, before)?;
-    put_number(out, n)
-}
-
-/// Appends a value.
-fn put_value(out: &mut Vec<u8>, value: Value) -> Result<(), AllocError>
-    ensures { Appends out.old out.new (value_field value) result }
-{
-    match value.as_num() {
-        Some(number) => put_number(out, number),
-        None => {
-            let mut field = [0; MOST_VALUE];
-            let end = put_bytes(&mut field, 0, &value);
-            put(out, &field[..end])
-        }
-    }
+    let mut field = [0; MOST_NUMBER];
+    let end = put_number(&mut field, before, n);
+    put(out, &field[..end])
 }
 
 /// Appends a word, or what else stands before a port, the port, a mark and a value.
-fn put_send(
+#[inline(always)]
+fn put_sent(
     out: &mut Vec<u8>,
     before: &[u8],
     port: Port,
-    mark: &[u8],
-    value: Value,
+    mark: u8,
+    value: &Value,
 ) -> Result<(), AllocError>
-    ensures { Appends out.old out.new (before.now ++ decimal port.0 ++ mark.now ++ value_field value) result }
+    requires { length before.now ≤ MOST_WORD }
+    ensures { Appends out.old out.new (before.now ++ decimal port.0 ++ mark ∷ value_field value.now) result }
 {
-    put_before_number(out, before, port.0.into())?;
-    put(out, mark)?;
-    put_value(out, value)
+    let mut field = [0; MOST_SEND];
+    let end = put_send(&mut field, before, port, mark, value);
+    put(out, &field[..end])
 }
 
 /// The end of an append that began at this place: where a growth was refused, the bytes from there on
@@ -132,12 +111,25 @@ pub fn write_event(out: &mut Vec<u8>, event: &Event) -> Result<(), NoMemory>
     Ok(())
 }
 
+/// Appends a value as a journal spells it; `Err` where a growth was refused, with nothing appended.
+pub fn write_value(out: &mut Vec<u8>, value: &Value) -> Result<(), NoMemory>
+    ensures ok { OnOk result (out.new.items ≡ out.old.items ++ value_field value.now) }
+    ensures err { OnErr result (out.new.items ≡ out.old.items) }
+    ensures capacity { vec_capacity out.old ≤ vec_capacity out.new }
+    ensures succeeds { HasRoomFor out.old (value_field value.now) → IsOk result }
+{
+    let mut spelled = [0; MOST_VALUE];
+    let end = put_value(&mut spelled, 0, value);
+    put(out, &spelled[..end])?;
+    Ok(())
+}
+
 /// Appends a case of a select, behind a space.
 fn put_case(out: &mut Vec<u8>, case: Case) -> Result<(), AllocError>
     ensures { Appends out.old out.new (codes " " ++ case_field case) result }
 {
     match case {
-        Case::Send(port, value) => put_send(out, b" s", port, b":", value),
+        Case::Send(port, value) => put_sent(out, b" s", port, b':', &value),
         Case::Recv(port) => put_before_number(out, b" r", port.0.into()),
     }
 }
@@ -175,7 +167,7 @@ fn put_call(out: &mut Vec<u8>, cases: &[Case], default: bool, word: u64) -> Resu
         return put_select(out, cases, default, word);
     }
     match cases[0] {
-        Case::Send(port, value) => put_send(out, b" send ", port, b" ", value),
+        Case::Send(port, value) => put_sent(out, b" send ", port, b' ', &value),
         Case::Recv(port) => put_before_number(out, b" recv ", port.0.into()),
     }
 }
@@ -201,7 +193,7 @@ fn put_step(out: &mut Vec<u8>, step: &StepRef<'_>) -> Result<(), AllocError>
 fn put_entry(out: &mut Vec<u8>, entry: &EntryRef<'_>) -> Result<(), AllocError>
     ensures { Appends out.old out.new (line entry.now) result }
 {
-    put_number(out, entry.pid.0.into())?;
+    put_before_number(out, b"", entry.pid.0.into())?;
     put_step(out, &entry.step)?;
     put(out, b"\n")
 }

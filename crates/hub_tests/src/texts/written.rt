@@ -2,8 +2,10 @@
 
 use crate::compare::same;
 use crate::steps::entries::{SENT, Told, event_of};
-use hub_base::{Edition, Entry, Event, Fault, Hears, Journal, NoMemory, ReadFault};
-use hub_text::{EventText, read_journal, write_entry, write_event, write_head, write_journal};
+use hub_base::{Edition, Entry, Event, Fault, Hears, Journal, NoMemory, ReadFault, Value};
+use hub_text::{
+    EventText, read_journal, write_entry, write_event, write_head, write_journal, write_value,
+};
 use std::alloc::Global;
 use std::process::Abort;
 use std::test::Fail;
@@ -188,4 +190,22 @@ fn are_all(rt: &impl Abort, text: &[u8], line: &[u8; 38]) {
     for found in text.chunks(line.len()) {
         same(rt, found, line.as_slice(), "line");
     }
+}
+
+#[test]
+fn values_are_written(rt: HostRuntime) -> Result<(), Fail> {
+    let mut text = Vec::new(rt.alloc());
+    for number in [0, 9, 10, 12_345, u64::MAX] {
+        write_value(&mut text, &Value::num(number))?;
+        text.push(b' ')?;
+    }
+    for bytes in [b"".as_slice(), b"\x00\xff", &[0xa5; 32]] {
+        let value = Value::bytes(bytes).expect(&rt, "at most 32 bytes");
+        write_value(&mut text, &value)?;
+        text.push(b' ')?;
+    }
+    let wanted = b"0 9 10 12345 18446744073709551615 # #00ff \
+        #a5a5a5a5a5a5a5a5a5a5a5a5a5a5a5a5a5a5a5a5a5a5a5a5a5a5a5a5a5a5a5a5 ";
+    same(&rt, text.as_slice(), wanted.as_slice(), "values");
+    Ok(())
 }

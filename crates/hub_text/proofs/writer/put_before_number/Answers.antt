@@ -1,8 +1,6 @@
-use Rattle.hub_text.proofs.Appending.{appends-then, appends-part}
+use Rattle.std.proofs.Common.{subst}
+use Rattle.hub_text.specs.Writing.{Appends}
 use Rattle.hub_text.proofs.writer.put_before_number.Goals as goal
 
 pub returns : goal.returns
-returns c = appends-then c.in_ok-put.ensures.appends c.put_number.ensures
-
-pub returns-in_err-put : goal.returns-in_err-put
-returns-in_err-put c = appends-part _ _ c.in_err-put.ensures.appends c.from_residual.ensures.0
+returns c = subst (λ text. Appends c.args.out.now c.put.new.out text c.put.result) c.put_number-end.ensures.put c.put.ensures.appends

@@ -13,11 +13,11 @@ use Rattle.hub_base.specs.declared.event.Outcome.{Outcome}
 use Rattle.hub_base.specs.declared.event.Outcome.TheVariants.{Sent, Got, Drained, Closed}
 use Rattle.hub_base.specs.declared.event.What.{What}
 use Rattle.hub_base.specs.declared.event.What.TheVariants as what
-use Rattle.hub_base.specs.Values.{of_what, sent_on, got_on}
+use Rattle.hub_base.specs.Values.{cases_at, of_what, sent_on, got_on}
 use Rattle.hub_story.specs.declared.levels.Level.{Level}
 use Rattle.hub_story.specs.declared.told.Told.{Told}
 use Rattle.hub_story.specs.declared.window.Window.{Window}
-use Rattle.hub_story.specs.Passing.{beside, cases_at, moved_by, passages, receives, sends}
+use Rattle.hub_story.specs.Passing.{beside, moved_by, passages, receives, sends}
 use Rattle.hub_picture.specs.declared.strips.Strip.{Strip}
 use Rattle.hub_picture.specs.declared.waiters.Side.{Side}
 use Rattle.hub_picture.specs.declared.waiters.Side.TheVariants.{Sends, Receives}

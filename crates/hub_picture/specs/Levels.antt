@@ -11,10 +11,9 @@ use Rattle.hub_base.specs.declared.case.Case.{Case}
 use Rattle.hub_base.specs.declared.event.Outcome.{Outcome}
 use Rattle.hub_base.specs.declared.event.What.{What}
 use Rattle.hub_base.specs.declared.event.What.TheVariants as what
-use Rattle.hub_base.specs.Values.{of_what, sent_on, got_on}
+use Rattle.hub_base.specs.Values.{cases_at, of_what, sent_on, got_on}
 use Rattle.hub_story.specs.declared.levels.Level.{Level}
 use Rattle.hub_story.specs.declared.told.Told.{Told}
-use Rattle.hub_story.specs.Passing.{cases_at}
 use Rattle.hub_story.specs.declared.window.Window.{Window}
 use Rattle.hub_picture.specs.declared.strips.Strip.{Strip}
 use Rattle.hub_picture.specs.declared.levels.Held.{Held}

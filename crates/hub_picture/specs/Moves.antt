@@ -8,10 +8,10 @@ use Rattle.hub_base.specs.Entry.{Entry}
 use Rattle.hub_base.specs.declared.event.What.{What}
 use Rattle.hub_base.specs.declared.event.What.TheVariants as what
 use Rattle.hub_base.specs.Ready.{port_of}
-use Rattle.hub_base.specs.Values.{sent_on}
+use Rattle.hub_base.specs.Values.{cases_at, sent_on}
 use Rattle.hub_story.specs.declared.moved.Moved.{Moved}
 use Rattle.hub_story.specs.declared.told.Told.{Told}
-use Rattle.hub_story.specs.Passing.{cases_at, moved_by, sends}
+use Rattle.hub_story.specs.Passing.{moved_by, sends}
 
 -- the port of the case that fired, if one did
 abbrev pub fired_port : List Case → What → Option Port

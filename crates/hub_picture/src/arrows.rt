@@ -6,12 +6,13 @@ ghost use Rattle.hub_picture.specs.Drawings.{all_arrows, arrows_on};
 ghost use Rattle.hub_picture.specs.Moves.{IsNextSent};
 ghost use Rattle.hub_story.specs.declared.moved.Moved.{Moved as MovedValue};
 ghost use Rattle.hub_story.specs.Passing.{moved_by, passages, sends};
+ghost use Rattle.hub_story.specs.Sides.{value_on};
 
 use crate::Window;
 use crate::moves::{Moves, OnPort};
-use hub_base::{Case, Outcome, Port, What};
+use hub_base::Port;
 use hub_core::ShortEntries;
-use hub_story::{Moved, Passage, Told};
+use hub_story::{Passage, Side, Told, moved_by};
 use std::alloc::{AllocError, Global};
 
 /// The passage of a value through a port.
@@ -23,52 +24,11 @@ pub struct Arrow {
     pub passage: Passage,
 }
 
-/// The send on the port that is told so.
-fn sent_by(entries: &ShortEntries, port: Port, told: &Told) -> Option<Moved>
-    ensures { result ≡ moved_by (sent_on port) entries.now told.now }
+/// Whether it tells of a value that moved on this side of the port.
+fn is_moved(side: Side, port: Port, entries: &ShortEntries, told: &Told) -> bool
+    ensures { result ≡ is_some (moved_by (value_on side port) entries.now told.now) }
 {
-    let What::Fired {
-        case,
-        outcome: Outcome::Sent,
-    } = told.event.what
-    else {
-        return None;
-    };
-    match entries.case_at(told.asked as usize, case)? {
-        Case::Send(on, value) if on.0 == port.0 => Some(Moved { told: *told, value }),
-        _ => None,
-    }
-}
-
-/// The receive from the port that is told so.
-fn got_by(entries: &ShortEntries, port: Port, told: &Told) -> Option<Moved>
-    ensures { result ≡ moved_by (got_on port) entries.now told.now }
-{
-    let What::Fired {
-        case,
-        outcome: Outcome::Got(value),
-    } = told.event.what
-    else {
-        return None;
-    };
-    match entries.case_at(told.asked as usize, case)? {
-        Case::Recv(on) if on.0 == port.0 => Some(Moved { told: *told, value }),
-        _ => None,
-    }
-}
-
-/// Whether it tells of a send on the port.
-fn is_sent(entries: &ShortEntries, port: Port, told: &Told) -> bool
-    ensures { result ≡ is_some (moved_by (sent_on port) entries.now told.now) }
-{
-    sent_by(entries, port, told).is_some()
-}
-
-/// Whether it tells of a receive from the port.
-fn is_got(entries: &ShortEntries, port: Port, told: &Told) -> bool
-    ensures { result ≡ is_some (moved_by (got_on port) entries.now told.now) }
-{
-    got_by(entries, port, told).is_some()
+    moved_by(side, port, entries, told).is_some()
 }
 
 /// Where the next send on the port is told, from this place on.
@@ -77,7 +37,7 @@ fn next_sent(entries: &ShortEntries, port: Port, told: &OnPort<'_>, from: usize)
     ensures none { IfNone result (sends entries.now (drop from told.now) port ≡ []) }
 {
     for place in from..told.len() {
-        if is_sent(entries, port, told.at(place)) {
+        if is_moved(Side::Sends, port, entries, told.at(place)) {
             return Some(place);
         }
     }
@@ -100,10 +60,10 @@ fn add_arrow(
     if !window.touches(sent.by, received.by) {
         return Ok(());
     }
-    let Some(sent) = sent_by(entries, port, sent) else {
+    let Some(sent) = moved_by(Side::Sends, port, entries, sent) else {
         return Ok(());
     };
-    let Some(received) = got_by(entries, port, received) else {
+    let Some(received) = moved_by(Side::Receives, port, entries, received) else {
         return Ok(());
     };
     arrows.push(Arrow {
@@ -127,7 +87,7 @@ fn add_arrows(
     let mut from = 0;
     for place in 0..told.len() {
         let received = told.at(place);
-        if is_got(entries, port, received) {
+        if is_moved(Side::Receives, port, entries, received) {
             let Some(sent) = next_sent(entries, port, told, from) else {
                 return Ok(());
             };

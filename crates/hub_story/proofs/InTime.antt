@@ -15,13 +15,13 @@ use Rattle.hub_base.specs.declared.event.Outcome.{Outcome}
 use Rattle.hub_base.specs.declared.event.Event.{Event}
 use Rattle.hub_base.specs.State.{State, Channel, opening}
 use Rattle.hub_base.specs.Runs.{state, state_after, moves}
-use Rattle.hub_base.specs.Values.{Turned, turns_after, of_what, sent_on, got_on, values_from}
+use Rattle.hub_base.specs.Values.{cases_at, Turned, turns_after, of_what, sent_on, got_on, values_from}
 use Rattle.hub_base.proofs.Lists.{all_append, all_more}
 use Rattle.hub_laws.proofs.Deeds.{at}
 use Rattle.hub_story.specs.declared.told.Told.{Told}
 use Rattle.hub_story.specs.declared.moved.Moved.{Moved}
 use Rattle.hub_story.specs.Told.{asked_by, tells_it, told_from, told}
-use Rattle.hub_story.specs.Passing.{cases_at, moved_by, beside, sends, receives, passages}
+use Rattle.hub_story.specs.Passing.{moved_by, beside, sends, receives, passages}
 use Rattle.hub_story.specs.Laws.{IsInTime, InTimeLaw}
 use Rattle.hub_story.proofs.Stories.{stand-turns, stand-more, values-told}
 use Rattle.hub_story.proofs.Passages.{sent-all, received-all}

@@ -18,11 +18,11 @@ use Rattle.hub_base.specs.declared.event.What.TheVariants as what
 use Rattle.hub_base.specs.declared.event.Event.{Event}
 use Rattle.hub_base.specs.State.{State, opening}
 use Rattle.hub_base.specs.Runs.{moves}
-use Rattle.hub_base.specs.Values.{Turned, turns_after, refused, cases_or, latest, last_call, of_what, sent_on, got_on, values_from}
+use Rattle.hub_base.specs.Values.{cases_at, Turned, turns_after, refused, cases_or, latest, last_call, of_what, sent_on, got_on, values_from}
 use Rattle.hub_story.specs.declared.told.Told.{Told}
 use Rattle.hub_story.specs.declared.moved.Moved.{Moved}
 use Rattle.hub_story.specs.Told.{may_end, call_or, latest_asked, last_asked, tells_it, told_from}
-use Rattle.hub_story.specs.Passing.{cases_at, moved_by}
+use Rattle.hub_story.specs.Passing.{moved_by}
 use Rattle.hub_story.specs.Laws.{SendsLaw}
 
 -- ---- where the entries of turns stand

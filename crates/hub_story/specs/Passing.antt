@@ -1,21 +1,17 @@
 -- Which value went from which entry to which: the k-th value that was sent on a port is the k-th that
 -- was received from it.
-use Rattle.std.specs.Prelude.{ℕ, List, [], ◌∷◌, Option, slice_get}
+use Rattle.std.specs.Prelude.{List, [], ◌∷◌, Option}
 use Rattle.std.specs.List.{filter_map}
-use Rattle.std.specs.Option.{option_map, option_map_or}
+use Rattle.std.specs.Option.{option_map}
 use Rattle.hub_base.specs.declared.value.Port.{Port}
 use Rattle.hub_base.specs.declared.value.Value.{Value}
 use Rattle.hub_base.specs.declared.case.Case.{Case}
 use Rattle.hub_base.specs.Entry.{Entry}
 use Rattle.hub_base.specs.declared.event.Outcome.{Outcome}
-use Rattle.hub_base.specs.Values.{cases_or, of_what, sent_on, got_on}
+use Rattle.hub_base.specs.Values.{cases_at, of_what, sent_on, got_on}
 use Rattle.hub_story.specs.declared.told.Told.{Told}
 use Rattle.hub_story.specs.declared.moved.Moved.{Moved}
 use Rattle.hub_story.specs.declared.moved.Passage.{Passage}
-
--- the cases of the entry at this place; none where it is no call
-abbrev pub cases_at : List Entry → ℕ → List Case
-cases_at es place = option_map_or (λ e. cases_or e.step []) (slice_get es place) []
 
 -- the value that is told so, where `pick` tells one of the case that fired
 abbrev pub moved_by : (Option Case → Outcome → Option Value) → List Entry → Told → Option Moved

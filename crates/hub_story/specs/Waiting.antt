@@ -6,7 +6,7 @@ pub use Rattle.hub_base.specs.Values.{is_stalled}
 use Rattle.hub_laws.specs.Replies.{is_parked}
 use Rattle.hub_story.specs.declared.told.Told.{Told}
 use Rattle.hub_story.specs.Told.{end_of}
-use Rattle.hub_story.specs.Passing.{cases_at}
+use Rattle.hub_base.specs.Values.{cases_at}
 
 -- the calls that were parked and told nothing since, by arrival
 abbrev pub still_waiting : List Told → List Told

@@ -6,7 +6,8 @@ ghost use Rattle.hub_story.specs.Sides.{moves_on};
 
 use crate::Told;
 use crate::passing::{Side, moved_by};
-use hub_base::{Entry, Port};
+use hub_base::Port;
+use hub_core::ShortEntries;
 
 /// How many values were sent on a port, and how many of them were received.
 #[derive(Clone, Copy)]
@@ -18,7 +19,7 @@ pub struct Level {
 }
 
 /// 1 where a value moved on this side of the port by one of the first so many entries, and else 0.
-fn count_of(side: Side, port: Port, entries: &[Entry], told: &Told, count: u32) -> usize
+fn count_of(side: Side, port: Port, entries: &ShortEntries, told: &Told, count: u32) -> usize
     ensures value { result ≡ length (moves_on side port entries.now (told_by count (told.now ∷ []))) }
     ensures most { result ≤ 1 }
 {
@@ -32,7 +33,7 @@ fn count_of(side: Side, port: Port, entries: &[Entry], told: &Told, count: u32) 
 }
 
 /// How many values were sent on the port and received from it by the first so many entries.
-pub(crate) fn level_of(port: Port, entries: &[Entry], told: &[Told], count: u32) -> Level
+pub(crate) fn level_of(port: Port, entries: &ShortEntries, told: &[Told], count: u32) -> Level
     ensures sent { result.sent ≡ sent_by entries.now told.now port count }
     ensures received { result.received ≡ received_by entries.now told.now port count }
 {

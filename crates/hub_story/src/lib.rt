@@ -5,7 +5,6 @@
 #![tactic(auto)]
 
 mod by_port;
-mod cases;
 mod ends;
 mod last_calls;
 mod laws;
@@ -18,13 +17,13 @@ mod told;
 mod window;
 
 pub use by_port::ByPort;
-pub use cases::{case_at, cases_at};
 pub use laws::{
     entries_end_once, events_are_told, levels_are_told, passages_are_in_time, passages_are_told,
     sends_are_told, waiting_is_told,
 };
 pub use levels::Level;
 pub use moved::{Moved, Passage};
+pub use passing::{Side, moved_by};
 pub use story::{Story, story_of};
 pub use told::Told;
 pub use window::Window;

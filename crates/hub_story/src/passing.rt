@@ -4,14 +4,14 @@ ghost use Rattle.std.specs.Prelude.{◌≡◌, Some, IfOk};
 ghost use Rattle.hub_story.specs.Passing.{beside, moved_by, passages};
 ghost use Rattle.hub_story.specs.Sides.{moves_on, value_on};
 
-use crate::cases::case_at;
 use crate::{Moved, Passage, Told};
-use hub_base::{Case, Entry, Outcome, Port, Value, What};
+use hub_base::{Case, Outcome, Port, Value, What};
+use hub_core::ShortEntries;
 use std::alloc::{AllocError, Global};
 
 /// The sends on a port, or the receives from it.
 #[derive(Clone, Copy)]
-pub(crate) enum Side {
+pub enum Side {
     /// The sends.
     Sends,
     /// The receives.
@@ -30,13 +30,13 @@ fn value_on(side: Side, port: Port, case: Case, outcome: Outcome) -> Option<Valu
 }
 
 /// The value that is told to have moved on this side of the port.
-pub(crate) fn moved_by(side: Side, port: Port, entries: &[Entry], told: &Told) -> Option<Moved>
+pub fn moved_by(side: Side, port: Port, entries: &ShortEntries, told: &Told) -> Option<Moved>
     ensures { result ≡ moved_by (value_on side port) entries.now told.now }
 {
     let What::Fired { case, outcome } = told.event.what else {
         return None;
     };
-    let case = case_at(entries, told.asked, case)?;
+    let case = entries.case_at(told.asked as usize, case)?;
     let value = value_on(side, port, case, outcome)?;
     Some(Moved { told: *told, value })
 }
@@ -46,7 +46,7 @@ fn moves(
     alloc: Global,
     side: Side,
     port: Port,
-    entries: &[Entry],
+    entries: &ShortEntries,
     told: &[Told],
 ) -> Result<Vec<Moved>, AllocError>
     ensures { IfOk result (λ moves. moves.items ≡ moves_on side port entries.now told.now) }
@@ -81,7 +81,7 @@ fn beside(alloc: Global, sends: &[Moved], receives: &[Moved]) -> Result<Vec<Pass
 pub(crate) fn passages_of(
     alloc: Global,
     port: Port,
-    entries: &[Entry],
+    entries: &ShortEntries,
     told: &[Told],
 ) -> Result<Vec<Passage>, AllocError>
     ensures { IfOk result (λ all. all.items ≡ passages entries.now told.now port) }

@@ -13,7 +13,7 @@ use crate::levels::level_of;
 use crate::passing::passages_of;
 use crate::telling::tell_all;
 use crate::{Level, Passage, Told};
-use hub_base::{Journal, NoMemory, Port};
+use hub_base::{NoMemory, Port};
 use hub_core::ShortJournal;
 use std::alloc::{AllocError, Global};
 
@@ -62,7 +62,7 @@ impl Story {
     pub fn passages(
         &self,
         alloc: Global,
-        journal: &Journal,
+        journal: &ShortJournal,
         port: Port,
     ) -> Result<Vec<Passage>, AllocError>
         ensures { IfOk result (λ all.
@@ -73,7 +73,7 @@ impl Story {
 
     /// How many values of this journal were sent on a port, and how many were received from it, by its first `count`
     /// entries.
-    pub fn level(&self, journal: &Journal, port: Port, count: u32) -> Level
+    pub fn level(&self, journal: &ShortJournal, port: Port, count: u32) -> Level
         ensures sent { result.sent ≡ sent_by journal.now.entries self.now.told.items port count }
         ensures received { result.received ≡ received_by journal.now.entries self.now.told.items port count }
     {

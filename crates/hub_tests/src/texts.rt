@@ -2,5 +2,6 @@
 
 mod faults;
 mod reader;
+mod stories;
 mod values;
 mod written;

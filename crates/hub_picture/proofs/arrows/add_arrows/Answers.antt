@@ -3,7 +3,7 @@ use Rattle.std.proofs.lemmas.Option.{get_or_from_slice_get}
 use Rattle.hub_base.specs.Values.{got_on, sent_on}
 use Rattle.hub_story.specs.Passing.{moved_by}
 use Rattle.hub_picture.proofs.ArrowsLeft.{is-none, is-some, moved-next, moved-none, next-arrow, no-receive-left, same-arrows}
-use Rattle.hub_picture.proofs.arrows.add_arrows.Goals.{then-is_got+in-Some+in_ok-add_arrow, else-is_got}
+use Rattle.hub_picture.proofs.arrows.add_arrows.Goals.{then-is_moved+in-Some+in_ok-add_arrow, else-is_moved}
 use Rattle.hub_picture.proofs.arrows.add_arrows.Goals as goal
 
 pub loop-place-preserved : goal.loop-place-preserved
@@ -14,9 +14,9 @@ loop-place-preserved c =
     let so = c.loop-place in
     let here = c.at-received.result.now in
     let below : so.place < length ts = omega (arith, c.loop-place-test.true, c.len-place-end.ensures) in
-    elim c.if-is_got.branch [
-      | then-is_got+in-Some+in_ok-add_arrow w ↦
-          let received = is-some (moved_by (got_on p) es here) (sym c.is_got.ensures ∙ w.if-is_got.true) in
+    elim c.if-is_moved.branch [
+      | then-is_moved+in-Some+in_ok-add_arrow w ↦
+          let received = is-some (moved_by (got_on p) es here) (sym c.is_moved.ensures ∙ w.if-is_moved.true) in
           let next = rw w.in-Some.is at w.next_sent.ensures.found in
           let at = w.at.ensures ∙ get_or_from_slice_get ts w.in-Some.sent next.told w.at.result.now next.at in
           rw (w.arrows-is, w.from-is)
@@ -24,8 +24,8 @@ loop-place-preserved c =
           (w.in_ok-add_arrow.ensures next.sent received.0 (ap (moved_by (sent_on p) es) at ∙ next.is) received.1) next.next
           (moved-next (got_on p) es ts so.place here (Some received.0) below (sym received.1 ∙ ap (moved_by (got_on p) es) c.at-received.ensures))
           so.invariant)
-      | else-is_got w ↦
-          let none = is-none (moved_by (got_on p) es here) (sym c.is_got.ensures ∙ w.if-is_got.false) in
+      | else-is_moved w ↦
+          let none = is-none (moved_by (got_on p) es here) (sym c.is_moved.ensures ∙ w.if-is_moved.false) in
           rw (w.arrows-is, w.from-is)
           (same-arrows c.args.window p so.arrows.items _ _ _ _
           (moved-next (got_on p) es ts so.place here None below (sym none ∙ ap (moved_by (got_on p) es) c.at-received.ensures)) so.invariant)

@@ -5,15 +5,15 @@ use Rattle.hub_story.specs.Passing.{moved_by}
 use Rattle.hub_picture.proofs.ArrowsLeft.{is-none, is-some, moved-next, moved-none}
 use Rattle.hub_picture.proofs.arrows.next_sent.Goals as goal
 
-pub returns-then-is_sent-clause-found : goal.returns-then-is_sent-clause-found
-returns-then-is_sent-clause-found c =
+pub returns-then-is_moved-clause-found : goal.returns-then-is_moved-clause-found
+returns-then-is_moved-clause-found c =
     let es = c.args.entries.now in
     let ts = c.args.told.now in
     let pick = sent_on c.args.port in
     let i = c.loop-place.place in
     let here = c.at.result.now in
     let below : i < length ts = omega (arith, c.loop-place-test.true, c.len-place-end.ensures) in
-    let sent = is-some (moved_by pick es here) (sym c.is_sent.ensures ∙ c.if-is_sent.true) in
+    let sent = is-some (moved_by pick es here) (sym c.is_moved.ensures ∙ c.if-is_moved.true) in
     record {
       told = here;
       sent = sent.0;
@@ -32,7 +32,7 @@ loop-place-preserved c =
     let i = c.loop-place.place in
     let here = c.at.result.now in
     let below : i < length ts = omega (arith, c.loop-place-test.true, c.len-place-end.ensures) in
-    let none = is-none (moved_by pick es here) (sym c.is_sent.ensures ∙ c.if-is_sent.false) in
+    let none = is-none (moved_by pick es here) (sym c.is_moved.ensures ∙ c.if-is_moved.false) in
     c.loop-place.invariant ∙ moved-next pick es ts i here None below (sym none ∙ ap (moved_by pick es) c.at.ensures)
 
 pub returns-clause-none : goal.returns-clause-none

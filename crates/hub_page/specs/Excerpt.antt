@@ -10,7 +10,7 @@ use Rattle.hub_base.specs.declared.event.What.TheVariants.{Fired}
 use Rattle.hub_story.specs.declared.told.Told.{Told}
 use Rattle.hub_story.specs.declared.window.Window.{Window}
 use Rattle.hub_story.specs.Levels.{told_by}
-use Rattle.hub_story.specs.Passing.{cases_at}
+use Rattle.hub_base.specs.Values.{cases_at}
 use Rattle.hub_story.specs.Waiting.{is_stalled}
 use Rattle.hub_story.specs.Windows.{has, touches}
 use Rattle.hub_story_text.specs.Partners.{partner_of}

@@ -8,10 +8,9 @@ use Rattle.hub_base.specs.declared.case.Case.TheVariants.{Send, Recv}
 use Rattle.hub_base.specs.Entry.{Entry}
 use Rattle.hub_base.specs.declared.event.Outcome.{Outcome}
 use Rattle.hub_base.specs.declared.event.Outcome.TheVariants.{Sent, Got}
-use Rattle.hub_base.specs.Values.{of_what}
+use Rattle.hub_base.specs.Values.{cases_at, of_what}
 use Rattle.hub_story.specs.declared.told.Told.{Told}
 use Rattle.hub_story.specs.Levels.{sent_by, received_by}
-use Rattle.hub_story.specs.Passing.{cases_at}
 use Rattle.hub_story_text.specs.StoryText.{came_by}
 use Rattle.hub_page.specs.Levels.{level_after}
 

@@ -10,7 +10,7 @@ use Rattle.hub_base.specs.Entry.{Entry}
 use Rattle.hub_base.specs.Ready.{port_of}
 use Rattle.hub_story.specs.declared.told.Told.{Told}
 use Rattle.hub_story.specs.Levels.{told_by}
-use Rattle.hub_story.specs.Passing.{cases_at}
+use Rattle.hub_base.specs.Values.{cases_at}
 use Rattle.hub_story_text.specs.declared.last_moves.Mover.{Mover}
 use Rattle.hub_story_text.specs.LastMoves.{AreLast, last_sender, last_receiver}
 use Rattle.hub_page.specs.declared.stalls.Stall.{Stall}

@@ -7,7 +7,7 @@ ghost use Rattle.hub_page.specs.Entries.{call_words, default_mark, entry_words, 
 
 use crate::number::put_number;
 use hub_base::{Case, EntryRef, NoMemory, Step, StepRef};
-use hub_story_text::put_value;
+use hub_text::write_value;
 
 /// Appends a case as a journal spells it.
 fn put_case(out: &mut Vec<u8>, case: &Case) -> Result<(), NoMemory>
@@ -17,7 +17,7 @@ fn put_case(out: &mut Vec<u8>, case: &Case) -> Result<(), NoMemory>
         Case::Send(port, value) => {
             put_number(out, b"s", port.0.into())?;
             out.extend_from_slice(b":")?;
-            put_value(out, *value)
+            write_value(out, value)
         }
         Case::Recv(port) => Ok(put_number(out, b"r", port.0.into())?),
     }

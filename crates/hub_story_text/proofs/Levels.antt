@@ -13,11 +13,11 @@ use Rattle.hub_base.specs.declared.value.Value.{Value}
 use Rattle.hub_base.specs.declared.case.Case.{Case}
 use Rattle.hub_base.specs.Entry.{Entry}
 use Rattle.hub_base.specs.declared.event.Outcome.{Outcome}
-use Rattle.hub_base.specs.Values.{of_what, sent_on, got_on}
+use Rattle.hub_base.specs.Values.{cases_at, of_what, sent_on, got_on}
 use Rattle.hub_story.specs.declared.told.Told.{Told}
 use Rattle.hub_story.specs.declared.moved.Moved.{Moved}
 use Rattle.hub_story.specs.Levels.{received_by, sent_by, told_by}
-use Rattle.hub_story.specs.Passing.{cases_at, moved_by, receives, sends}
+use Rattle.hub_story.specs.Passing.{moved_by, receives, sends}
 use Rattle.hub_story.specs.Stories.{IsFrom}
 use Rattle.hub_story_text.specs.declared.fullest.Fullest.{Fullest}
 use Rattle.hub_story_text.specs.Fullest.{IsUp, count_below, fuller, fuller_by, fullest, fullest_of, held_by, never_filled}

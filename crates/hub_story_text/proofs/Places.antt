@@ -16,11 +16,11 @@ use Rattle.hub_base.specs.declared.event.Outcome.{Outcome}
 use Rattle.hub_base.specs.declared.event.Outcome.TheVariants.{Sent, Got, Drained, Closed}
 use Rattle.hub_base.specs.declared.event.What.{What}
 use Rattle.hub_base.specs.declared.event.What.TheVariants as what
-use Rattle.hub_base.specs.Values.{of_what, sent_on, got_on}
+use Rattle.hub_base.specs.Values.{cases_at, of_what, sent_on, got_on}
 use Rattle.hub_story.specs.declared.told.Told.{Told}
 use Rattle.hub_story.specs.declared.moved.Moved.{Moved}
 use Rattle.hub_story.specs.OfPorts.{things_on}
-use Rattle.hub_story.specs.Passing.{beside, cases_at, moved_by, receives, sends}
+use Rattle.hub_story.specs.Passing.{beside, moved_by, receives, sends}
 use Rattle.hub_story_text.specs.declared.port_moves.PortMove.{PortMove}
 use Rattle.hub_story_text.specs.declared.port_moves.PortMoves.{PortMoves}
 use Rattle.hub_story_text.specs.LastMoves.{got_port, sent_port}

@@ -1,20 +1,14 @@
 -- What is written of a step: its own line, and what it did to others.
 use Rattle.std.proofs.Common.{◌≡◌, ◌<◌, ◌+◌, ℕ, Bool, true, false, List, [], ◌∷◌, ◌++◌}
-use Rattle.std.proofs.Common.{length, take, filter, refl, ap, ◌∙◌, sym, append-nil, get_or, add-one, codes}
-use Rattle.std.proofs.Common.{◌≢◌, ◌-◌, ◌≤◌, Option, drop, length-append, arith}
+use Rattle.std.proofs.Common.{length, take, filter, refl, ap, ◌∙◌, sym, append-nil, get_or, add-one}
+use Rattle.std.proofs.Common.{◌≢◌, ◌-◌, Option, drop, length-append, arith}
 use Rattle.std.specs.List.{flat_map}
 use Rattle.std.proofs.Math.Seq.{take-suc, take-append_seam}
-use Rattle.std.proofs.lemmas.Fmt.{decimal_digit}
-use Rattle.std.proofs.lemmas.List.{append_cancel_right}
 use Rattle.std.proofs.lemmas.Grind.{flat_map-append}
-use Rattle.hub_base.specs.declared.event.Outcome.TheVariants.{Got}
 use Rattle.hub_base.specs.declared.event.What.{What}
 use Rattle.hub_base.specs.declared.event.What.TheVariants.{Made, Fired, Default, Done, Parked, Stalled, Fault, Cancelled}
 use Rattle.hub_base.specs.declared.value.Port.{Port}
-use Rattle.hub_base.specs.declared.value.Value.{Value}
 use Rattle.hub_base.specs.Entry.{Entry}
-use Rattle.hub_base.specs.EventText.{event_line}
-use Rattle.hub_base.specs.Value.{value_field}
 use Rattle.hub_story.specs.declared.told.Told.{Told}
 use Rattle.hub_story_text.specs.declared.last_moves.Mover.{Mover}
 use Rattle.hub_story_text.specs.declared.ends.Ending.{Ending}
@@ -66,19 +60,6 @@ pub without-newline : (whole words : List ℕ) (n : ℕ) → n ≡ length whole 
 without-newline whole words n len is =
     let less : n - 1 ≡ length words = omega (arith, len ∙ ap length is ∙ length-append words (10 ∷ [])) in
     ap (λ k. take k whole) less ∙ ap (take (length words)) is ∙ take-append_seam words (10 ∷ [])
-
--- what stands before a value in the line of an event that tells of it
-pub value-words : (words : List ℕ) (v : Value) → words ++ codes "\n" ≡ event_line (record { pid = record { 0 = 0 }; what = Fired 0 (Got v) }) →
-    words ≡ codes "0 case 0 got " ++ value_field v
-value-words words v is =
-    append_cancel_right words (codes "0 case 0 got " ++ value_field v) (10 ∷ [])
-    (is ∙ ap (λ d. d ++ (codes " case " ++ d ++ (codes " got " ++ value_field v)) ++ codes "\n") (decimal_digit 0 (omega arith)))
-
-pub value-behind : (words : List ℕ) (v : Value) → words ++ codes "\n" ≡ event_line (record { pid = record { 0 = 0 }; what = Fired 0 (Got v) }) →
-    (13 ≤ length words) × (drop 13 words ≡ value_field v)
-value-behind words v is =
-    let so = value-words words v is in
-    (rw so (omega arith), ap (drop 13) so)
 
 -- there is somebody who waits
 pub not-empty : (nobody heading : List ℕ) (es : List Entry) (senders receivers : Port → Option Mover) (left ts : List Told) → ts ≢ [] →

@@ -1,6 +1,6 @@
 -- What a step did to calls that waited: `frees 3`, `cancels 3`, `times out 3`, `wakes 3` or `stalls 3 4`, by the events with which
 -- they ended. The clock times calls out, and is woken itself.
-use Rattle.std.specs.Prelude.{ℕ, ◌+◌, ◌==◌, ◌&&◌, not, Bool, true, false, List, [], ◌∷◌, ◌++◌, codes, decimal, filter, Option}
+use Rattle.std.specs.Prelude.{ℕ, ◌+◌, ◌==◌, ◌&&◌, ◌||◌, not, Bool, true, false, List, [], ◌∷◌, ◌++◌, codes, decimal, filter, Option}
 use Rattle.std.specs.List.{flat_map}
 use Rattle.hub_base.specs.declared.value.Pid.{Pid}
 use Rattle.hub_base.specs.Entry.{Entry}
@@ -29,6 +29,10 @@ ends_so ending part other = false
 -- it so ended a step other than the one at this place
 abbrev pub ends_other : Option Pid → List Entry → Ending → ℕ → Told → Bool
 ends_other clock es ending place t = ends_so ending (part_of clock es t) t.event.what && not (t.asked == place)
+
+-- it is told of the step at this place, or of a case that fired
+abbrev pub is_own_or_fired : ℕ → Told → Bool
+is_own_or_fired place t = (t.asked == place) || ends_so Frees NoPart t.event.what
 
 abbrev pub ending_word : Ending → List ℕ
 ending_word Frees = codes "frees"

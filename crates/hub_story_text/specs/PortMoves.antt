@@ -6,10 +6,9 @@ use Rattle.hub_base.specs.declared.value.Port.{Port}
 use Rattle.hub_base.specs.declared.case.Case.{Case}
 use Rattle.hub_base.specs.Entry.{Entry}
 use Rattle.hub_base.specs.declared.event.Outcome.{Outcome}
-use Rattle.hub_base.specs.Values.{of_what}
+use Rattle.hub_base.specs.Values.{cases_at, of_what}
 use Rattle.hub_story.specs.declared.told.Told.{Told}
 use Rattle.hub_story.specs.OfPorts.{things_on}
-use Rattle.hub_story.specs.Passing.{cases_at}
 use Rattle.hub_story_text.specs.declared.port_moves.PortMove.{PortMove}
 use Rattle.hub_story_text.specs.declared.port_moves.PortMoves.{PortMoves}
 use Rattle.hub_story_text.specs.LastMoves.{sent_port, got_port}

@@ -5,8 +5,9 @@ ghost use Rattle.hub_base.specs.Value.{value_field};
 ghost use Rattle.hub_story_text.specs.AnswerText.{answer_words, case_name, ended_words, fault_words, fired_name, outcome_words};
 
 use crate::clock::Part;
-use crate::numbers::{put_number, put_value};
+use crate::numbers::put_number;
 use hub_base::{Case, Fault, NoMemory, Outcome, Value, What};
+use hub_text::write_value;
 use std::alloc::AllocError;
 
 /// Appends a case without its value.
@@ -52,7 +53,7 @@ fn put_got(out: &mut Vec<u8>, value: Value) -> Result<(), NoMemory>
     ensures { OnOk result (out.new.items ≡ out.old.items ++ codes "got " ++ value_field value) }
 {
     put_words(out, b"got ")?;
-    put_value(out, value)
+    write_value(out, &value)
 }
 
 /// Appends how a communication ended.

@@ -1,6 +1,6 @@
 //! A block of a text, kept short: where a line is nearly the one before it, what differs is kept.
 
-ghost use Rattle.std.specs.Prelude.{◌≡◌, ◌≤◌, ◌<◌, length, vec_capacity, IfOk, IfSome, OnErr, OnOk};
+ghost use Rattle.std.specs.Prelude.{◌≡◌, ◌≤◌, ◌<◌, ◌+◌, length, vec_capacity, IfOk, IfSome, OnErr, OnOk};
 ghost use Rattle.hub_story_text.specs.Packed.{unpacked};
 
 use std::alloc::{AllocError, Global};
@@ -11,6 +11,9 @@ pub const MOST_BLOCK: usize = 131_072;
 
 /// So many times shorter at least are the copies of a block than its bytes.
 const TIMES_SHORTER: usize = 16;
+
+/// So many bytes are compared at once.
+const EIGHT: usize = 8;
 
 /// The bytes that come next: some that stand a line's length before the end, and one more.
 #[derive(Clone, Copy)]
@@ -70,18 +73,31 @@ fn first_line(text: &[u8]) -> usize
     text.len()
 }
 
+/// The eight bytes from this place on, as one number, so that they are compared at once.
+#[inline(always)]
+fn eight_at(text: &[u8], at: usize) -> u64
+    requires { at + EIGHT ≤ length text.now }
+{
+    let bytes = &text[at..at + EIGHT];
+    u64::from_le_bytes([
+        bytes[0], bytes[1], bytes[2], bytes[3], bytes[4], bytes[5], bytes[6], bytes[7],
+    ])
+}
+
 /// At how many places, from the first on, both have the same byte, so many at most.
 fn same(one: &[u8], other: &[u8], most: usize) -> usize
     requires one { most ≤ length one.now }
     requires other { most ≤ length other.now }
     ensures { result ≤ most }
 {
-    for i in 0..most {
-        if one[i] != other[i] {
-            return i;
-        }
+    let mut at = 0;
+    while at + EIGHT <= most && eight_at(one, at) == eight_at(other, at) {
+        at += EIGHT;
     }
-    most
+    while at < most && one[at] == other[at] {
+        at += 1;
+    }
+    at
 }
 
 /// Copies that may be the text behind so many bytes; those of its beginning alone where they would be many.

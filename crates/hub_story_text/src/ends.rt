@@ -1,9 +1,9 @@
 //! What a step did to calls that waited.
 
-ghost use Rattle.std.specs.Prelude.{◌≡◌, ◌++◌, [], filter, OnOk};
+ghost use Rattle.std.specs.Prelude.{◌≡◌, ◌++◌, [], true, filter, OnOk};
 ghost use Rattle.std.specs.Bool.{OnTrue};
 ghost use Rattle.std.specs.List.{AllByRecursion};
-ghost use Rattle.hub_story_text.specs.EndsText.{ending_word, ends_other, ends_so, ends_words, with_all_ends, with_ended, with_ends};
+ghost use Rattle.hub_story_text.specs.EndsText.{ending_word, ends_other, ends_so, ends_words, is_own_or_fired, with_all_ends, with_ended, with_ends};
 ghost use Rattle.hub_story_text.specs.Writing.{LineBecomes};
 
 use crate::cells::{ENDS, close_cell, open_cell};
@@ -153,7 +153,19 @@ fn are_own(place: u32, came: &[Told]) -> bool
     true
 }
 
-/// Which other steps ended by the step at this place, in the last column. Most steps end no other.
+/// Whether all that came is told of the step at this place, or of a case that fired.
+fn are_own_or_fired(place: u32, came: &[Told]) -> bool
+    ensures { OnTrue result (AllByRecursion (λ t. is_own_or_fired place t ≡ true) came.now) }
+{
+    for told in came {
+        if told.asked != place && !ends_so(Ending::Frees, Part::NoPart, told.event.what) {
+            return false;
+        }
+    }
+    true
+}
+
+/// Which other steps ended by the step at this place, in the last column. Most steps end no other, and most others free one.
 pub(crate) fn ends_cells(
     out: &mut Vec<u8>,
     start: usize,
@@ -169,6 +181,9 @@ pub(crate) fn ends_cells(
         return Ok(());
     }
     ends_cell(out, start, clock, entries, Ending::Frees, place, came)?;
+    if are_own_or_fired(place, came) {
+        return Ok(());
+    }
     ends_cell(out, start, clock, entries, Ending::Cancels, place, came)?;
     ends_cell(out, start, clock, entries, Ending::TimesOut, place, came)?;
     ends_cell(out, start, clock, entries, Ending::Wakes, place, came)?;

@@ -28,7 +28,6 @@ pub use block::{Block, MOST_BLOCK};
 pub use clock::clock_of;
 pub use hub_story::Window;
 pub use last_moves::{LastMoves, Mover, PORT_NUMBERS, got_port, sent_port};
-pub use numbers::put_value;
 pub use packed_text::PackedText;
 pub use paint::Paint;
 pub use partners::all_partners;

@@ -3,14 +3,10 @@ use Rattle.std.proofs.Common.{◌≡◌, ◌-◌, ℕ, List, [], ◌∷◌, ◌+
 use Rattle.std.specs.List.{join_with_byte}
 use Rattle.std.proofs.lemmas.Fmt.{decimal_digit}
 use Rattle.std.proofs.lemmas.List.{append_cancel_right, drop_min}
-use Rattle.hub_base.specs.declared.event.Outcome.TheVariants.{Got}
 use Rattle.hub_base.specs.declared.event.What.{What}
-use Rattle.hub_base.specs.declared.event.What.TheVariants.{Fired}
-use Rattle.hub_base.specs.declared.value.Value.{Value}
 use Rattle.hub_base.specs.Entry.{Entry}
 use Rattle.hub_base.specs.EventText.{event_line, what_text}
 use Rattle.hub_base.specs.Lines.{line, step_fields}
-use Rattle.hub_base.specs.Value.{value_field}
 use Rattle.hub_story_text.proofs.Chains.{rest-whole}
 
 -- a slice that begins there
@@ -26,7 +22,3 @@ pub event-words : (words : List ℕ) (w : What) → words ++ codes "\n" ≡ even
 event-words words w is =
     append_cancel_right words (codes "0" ++ what_text w) (10 ∷ [])
     (is ∙ ap (λ d. d ++ what_text w ++ codes "\n") (decimal_digit 0 (omega arith)))
-
--- what stands behind the words before a value
-pub value-words : (v : Value) → drop 13 (codes "0" ++ what_text (Fired 0 (Got v))) ≡ value_field v
-value-words v = ap (λ d. drop 13 (codes "0" ++ (codes " case " ++ d ++ (codes " got " ++ value_field v)))) (decimal_digit 0 (omega arith))

@@ -9,7 +9,7 @@ use Rattle.hub_base.specs.declared.event.Outcome.TheVariants.{Sent, Got}
 use Rattle.hub_base.specs.declared.event.What.{What}
 use Rattle.hub_base.specs.declared.event.What.TheVariants as what
 use Rattle.hub_story.specs.declared.told.Told.{Told}
-use Rattle.hub_story.specs.Passing.{cases_at}
+use Rattle.hub_base.specs.Values.{cases_at}
 use Rattle.hub_trace.specs.declared.moves.Move.{Move}
 use Rattle.hub_trace.specs.declared.moves.Way.TheVariants.{Into, OutOf}
 

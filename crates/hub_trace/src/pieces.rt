@@ -1,14 +1,13 @@
 //! The pieces of a line.
 
-ghost use Rattle.std.specs.Prelude.{◌≡◌, ◌++◌, ◌+◌, codes, decimal, drop, length, IfOk, OnOk};
+ghost use Rattle.std.specs.Prelude.{◌≡◌, ◌++◌, ◌+◌, codes, decimal, length, IfOk, OnOk};
 ghost use Rattle.std.specs.List.{flat_map};
-ghost use Rattle.hub_base.specs.EventText.{event_line, what_text};
+ghost use Rattle.hub_base.specs.EventText.{event_line};
 ghost use Rattle.hub_base.specs.Lines.{line};
-ghost use Rattle.hub_base.specs.Value.{value_field};
-ghost use Rattle.hub_trace.specs.Pieces.{asked_words, piece_text};
+ghost use Rattle.hub_trace.specs.Pieces.{asked_words, piece_text, told_words};
 
-use hub_base::{Edition, EntryRef, Event, NoMemory, Outcome, Pid, Value, What};
-use hub_text::{write_entry, write_event};
+use hub_base::{Edition, EntryRef, Event, NoMemory, Pid, Value, What};
+use hub_text::{write_entry, write_event, write_value};
 use itoa::Buffer;
 use std::alloc::Global;
 
@@ -80,29 +79,15 @@ fn event_words(alloc: Global, what: What) -> Result<Vec<u8>, NoMemory>
     Ok(line)
 }
 
-/// Appends what stands behind so many bytes of that line.
-fn put_event(out: &mut Vec<u8>, what: What, behind: usize) -> Result<(), NoMemory>
-    ensures { OnOk result (out.new.items ≡ out.old.items ++ drop behind (codes "0" ++ what_text what)) }
+/// So many bytes of that line are the process and the space behind it.
+const PROCESS: usize = b"0 ".len();
+
+/// Appends what a process is told: the line of the event, without its process.
+fn put_told(out: &mut Vec<u8>, what: What) -> Result<(), NoMemory>
+    ensures { OnOk result (out.new.items ≡ out.old.items ++ told_words what) }
 {
     let words = event_words(*out.allocator(), what)?;
-    Ok(out.extend_from_slice(&words[behind.min(words.len())..])?)
-}
-
-/// Behind so many bytes the value stands in the line of an event that tells of it.
-const BEFORE_VALUE: usize = b"0 case 0 got ".len();
-
-/// Appends a value: the line of an event that tells of it ends with it.
-fn put_value(out: &mut Vec<u8>, value: Value) -> Result<(), NoMemory>
-    ensures { OnOk result (out.new.items ≡ out.old.items ++ value_field value) }
-{
-    put_event(
-        out,
-        What::Fired {
-            case: 0,
-            outcome: Outcome::Got(value),
-        },
-        BEFORE_VALUE,
-    )
+    Ok(out.extend_from_slice(&words[PROCESS.min(words.len())..])?)
 }
 
 /// Appends a piece.
@@ -113,8 +98,8 @@ fn put_piece(out: &mut Vec<u8>, piece: &Piece<'_>) -> Result<(), NoMemory>
         Piece::Word(bytes) => Ok(out.extend_from_slice(bytes)?),
         Piece::Number(number) => put_number(out, *number),
         Piece::Asks(entry) => put_asked(out, entry),
-        Piece::Tells(what) => put_event(out, *what, 2),
-        Piece::Carries(value) => put_value(out, *value),
+        Piece::Tells(what) => put_told(out, *what),
+        Piece::Carries(value) => write_value(out, value),
     }
 }
 

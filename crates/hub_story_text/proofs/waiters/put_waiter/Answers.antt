@@ -2,7 +2,7 @@ use Rattle.std.proofs.Common.{codes}
 use Rattle.std.specs.List.{flat_map}
 use Rattle.hub_story_text.specs.LastMoves.{mover_at}
 use Rattle.hub_story_text.specs.WaiterText.{case_words, who_words}
-use Rattle.hub_story.specs.Passing.{cases_at}
+use Rattle.hub_base.specs.Values.{cases_at}
 use Rattle.hub_story_text.proofs.Chains.{on-ok, one-more}
 use Rattle.hub_story_text.proofs.waiters.put_waiter.Goals as goal
 

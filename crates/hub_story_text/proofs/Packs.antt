@@ -1,11 +1,13 @@
 -- Texts that are kept short.
-use Rattle.std.proofs.Common.{◌≡◌, ◌∙◌, ◌++◌, ◌≤◌, ◌<◌, ◌+◌, ◌-◌, ◌∷◌, [], ℕ, List, length, min, drop, get_or, Result, Ok, Err, OnErr}
+use Rattle.std.proofs.Common.{◌≡◌, ◌∙◌, ◌++◌, ◌≤◌, ◌<◌, ◌+◌, ◌-◌, ◌∷◌, [], ℕ, List, length, min, drop, take, take-take, get_or, Result, Ok, Err, OnErr}
 use Rattle.std.proofs.Common.{ap, sym, refl, arith, add-one, append-nil, append_assoc, length-append}
-use Rattle.std.proofs.lemmas.List.{length-drop, length-take-le, drop_all}
-use Rattle.std.proofs.Math.Seq.{drop-cons}
+use Rattle.std.proofs.lemmas.List.{length-drop, length-take-le, drop-take, drop_all}
+use Rattle.std.proofs.Math.Seq.{drop-cons, take-add}
 use Rattle.std.specs.Prelude.{slice_range}
 use Rattle.hub_story_text.specs.declared.block.Copied.{Copied}
 use Rattle.hub_story_text.specs.Packed.{joined, unpacked, with_copied}
+use Rattle.hub_story_text.proofs.Chains.{rest-whole}
+use Rattle.hub_story_text.proofs.StepLines.{taken-next}
 
 -- copies leave no fewer bytes
 pub no-fewer : (d : ℕ) (bs : List ℕ) (cs : List Copied) → length bs ≤ length (unpacked d bs cs)
@@ -70,6 +72,41 @@ room d i cs bs all x count start end many-are below at stop so =
 pub all-copied : (d i : ℕ) (cs : List Copied) (bs all : List ℕ) → length cs ≤ i → unpacked d bs (drop i cs) ≡ all → bs ≡ all
 unfolding unpacked
 all-copied d i cs bs all past so = ap (unpacked d bs) (sym (drop_all i cs past)) ∙ so
+
+-- ---- copies of a text, as they are found
+unpacked-more : (d : ℕ) (bs : List ℕ) (cs : List Copied) (c : Copied) → unpacked d bs (cs ++ c ∷ []) ≡ with_copied d (unpacked d bs cs) c
+unfolding unpacked
+unpacked-more d bs [] c = refl
+unpacked-more d bs (x ∷ xs) c = unpacked-more d (with_copied d bs x) xs c
+
+-- what is the same so far, and from there on
+pub same-more : (n m : ℕ) (xs ys : List ℕ) → n ≤ m → take n xs ≡ take n ys → slice_range xs n m ≡ slice_range ys n m → take m xs ≡ take m ys
+same-more n m xs ys le first next =
+    let whole : n + (m - n) ≡ m = omega (arith, le) in
+    let parts = λ (zs : List ℕ). ap (λ k. take k zs) (sym whole) ∙ take-add n (m - n) zs in
+    parts xs ∙ (λ i. first i ++ next i) ∙ sym (parts ys)
+
+-- one copy more is the text behind it
+pub copied-more : (d at count x : ℕ) (text : List ℕ) (copies new : List Copied) (c : Copied) → d ≤ at → at + count < length text → count ≤ d →
+    c.count ≡ count → c.last ≡ get_or text (at + count) x →
+    take count (slice_range text (at - d) (length text)) ≡ take count (slice_range text at (length text)) → new ≡ copies ++ c ∷ [] →
+    unpacked d (take d text) copies ≡ take at text → unpacked d (take d text) new ≡ take (at + (count + 1)) text
+copied-more d at count x text copies new c fits below few many last same is so =
+    let bs : List ℕ = take at text in
+    let len : length bs ≡ at = length-take-le at text (omega (arith, below)) in
+    let back : (at - d) + d ≡ at = omega (arith, fits) in
+    let rest = λ (n : ℕ). ap (take count) (rest-whole n text text refl) in
+    let piece : take count (drop (at - d) bs) ≡ take count (drop at text) =
+    ap (λ n. take count (drop (at - d) (take n text))) (sym back) ∙ ap (take count) (drop-take (at - d) d text)
+    ∙ take-take count d (drop (at - d) text) few ∙ sym (rest (at - d)) ∙ same ∙ rest at in
+    let s : ℕ = length bs - d in
+    let e : ℕ = min (s + c.count) (length bs) in
+    let width : e - s ≡ count = omega (arith, len, many, few, fits) in
+    let copied : slice_range bs s e ≡ take count (drop at text) =
+    ap (λ n. take n (drop s bs)) width ∙ ap (λ n. take count (drop (n - d) bs)) len ∙ piece in
+    ap (unpacked d (take d text)) is ∙ unpacked-more d (take d text) copies c ∙ ap (λ l. with_copied d l c) so
+    ∙ ap (λ l. (bs ++ l) ++ c.last ∷ []) copied ∙ (λ i. sym (take-add at count text) i ++ last i ∷ []) ∙ sym (taken-next text (at + count) x below)
+    ∙ ap (λ n. take n text) (omega arith)
 
 -- nothing is copied
 pub no-copies : (d : ℕ) (bs : List ℕ) (cs : List Copied) → cs ≡ [] → unpacked d bs cs ≡ bs

@@ -1,6 +1,6 @@
 //! A block of a text, kept short: where a line is nearly the one before it, what differs is kept.
 
-ghost use Rattle.std.specs.Prelude.{◌≡◌, ◌≤◌, ◌<◌, ◌+◌, length, vec_capacity, IfOk, IfSome, OnErr, OnOk};
+ghost use Rattle.std.specs.Prelude.{◌≡◌, ◌≤◌, ◌<◌, ◌+◌, length, take, vec_capacity, IfOk, IfSome, OnErr, OnOk};
 ghost use Rattle.hub_story_text.specs.Packed.{unpacked};
 
 use std::alloc::{AllocError, Global};
@@ -73,25 +73,15 @@ fn first_line(text: &[u8]) -> usize
     text.len()
 }
 
-/// The eight bytes from this place on, as one number, so that they are compared at once.
-#[inline(always)]
-fn eight_at(text: &[u8], at: usize) -> u64
-    requires { at + EIGHT ≤ length text.now }
-{
-    let bytes = &text[at..at + EIGHT];
-    u64::from_le_bytes([
-        bytes[0], bytes[1], bytes[2], bytes[3], bytes[4], bytes[5], bytes[6], bytes[7],
-    ])
-}
-
 /// At how many places, from the first on, both have the same byte, so many at most.
 fn same(one: &[u8], other: &[u8], most: usize) -> usize
     requires one { most ≤ length one.now }
     requires other { most ≤ length other.now }
-    ensures { result ≤ most }
+    ensures most { result ≤ most }
+    ensures same { take result one.now ≡ take result other.now }
 {
     let mut at = 0;
-    while at + EIGHT <= most && eight_at(one, at) == eight_at(other, at) {
+    while at + EIGHT <= most && one[at..at + EIGHT] == other[at..at + EIGHT] {
         at += EIGHT;
     }
     while at < most && one[at] == other[at] {
@@ -100,13 +90,17 @@ fn same(one: &[u8], other: &[u8], most: usize) -> usize
     at
 }
 
-/// Copies that may be the text behind so many bytes; those of its beginning alone where they would be many.
-fn copies_of(alloc: Global, text: &[u8], distance: usize) -> Result<Vec<Copied>, AllocError>
+/// Copies that are the text behind so many bytes; `None` where they would be many.
+fn copies_of(alloc: Global, text: &[u8], distance: usize) -> Result<Option<Vec<Copied>>, AllocError>
     requires { distance ≤ length text.now }
+    ensures { IfOk result (λ made. IfSome made (λ copies. unpacked distance (take distance text.now) copies.items ≡ text.now)) }
 {
     let mut copies = Vec::new(alloc);
     let mut at = distance;
-    while at < text.len() && copies.len() <= at / TIMES_SHORTER {
+    while at < text.len() {
+        if copies.len() > at / TIMES_SHORTER {
+            return Ok(None);
+        }
         let most = (text.len() - at - 1).min(distance).min(255);
         let count = same(&text[at - distance..], &text[at..], most);
         copies.push(Copied {
@@ -115,7 +109,7 @@ fn copies_of(alloc: Global, text: &[u8], distance: usize) -> Result<Vec<Copied>,
         })?;
         at += count + 1;
     }
-    Ok(copies)
+    Ok(Some(copies))
 }
 
 impl Block {
@@ -137,17 +131,14 @@ impl Block {
         ensures { IfOk result (λ made. IfSome made (λ block. block ≡ text.now)) }
     {
         let distance = first_line(text);
-        let tried = copies_of(alloc, text, distance)?;
-        let mut whole = Vec::from_slice(alloc, &text[..distance])?;
-        put_copies(&mut whole, distance, &tried)?;
-        if whole.as_slice() == text {
-            return Ok(Some(Block {
-                first: Vec::from_slice(alloc, &text[..distance])?,
-                distance,
-                copies: Vec::from_slice(alloc, &tried)?,
-            }));
-        }
-        Ok(None)
+        let Some(copies) = copies_of(alloc, text, distance)? else {
+            return Ok(None);
+        };
+        Ok(Some(Block {
+            first: Vec::from_slice(alloc, &text[..distance])?,
+            distance,
+            copies: Vec::from_slice(alloc, &copies)?,
+        }))
     }
 
     /// Its bytes, where they are kept as they are.

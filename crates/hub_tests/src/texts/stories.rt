@@ -65,7 +65,13 @@ fn values_pass_from_sends_to_receives(rt: HostRuntime) -> Result<(), Fail> {
 fn level_is_what_was_sent_and_received(rt: HostRuntime) -> Result<(), Fail> {
     let journal = read_short_journal(rt.alloc(), TEXT)?;
     let story = story(&rt, rt.alloc(), &journal)?;
-    for (count, wanted) in [(1, (0, 0)), (3, (2, 0)), (4, (2, 1)), (7, (3, 3)), (10, (3, 3))] {
+    for (count, wanted) in [
+        (1, (0, 0)),
+        (3, (2, 0)),
+        (4, (2, 1)),
+        (7, (3, 3)),
+        (10, (3, 3)),
+    ] {
         let Level { sent, received } = story.level(&journal, Port(1), count);
         same(&rt, (sent, received), wanted, ("entries", count));
     }

@@ -12,7 +12,7 @@ loop-at-preserved c =
       omega (arith, so.0),
       omega (arith, c.loop-at-test.true, most, c.min.ensures, c.min-most.ensures, c.len.ensures),
       copied-more c.args.distance c.loop-at.at c.same-count.result 0 c.args.text.now c.loop-at.copies.items c.push.new.self.items _ so.0
-      (omega (arith, c.loop-at-test.true, most, c.min.ensures, c.min-most.ensures, c.len.ensures))
-      (omega (arith, most, c.min.ensures, c.min-most.ensures)) (omega (arith, most, c.min.ensures, c.min-most.ensures)) (omega arith)
-      c.same-count.ensures.same c.in_ok-push.ensures.items so.2,
+          (omega (arith, c.loop-at-test.true, most, c.min.ensures, c.min-most.ensures, c.len.ensures))
+          (omega (arith, most, c.min.ensures, c.min-most.ensures)) (omega (arith, most, c.min.ensures, c.min-most.ensures)) (omega arith)
+          c.same-count.ensures.same c.in_ok-push.ensures.items so.2,
     )

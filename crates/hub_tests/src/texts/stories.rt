@@ -25,7 +25,7 @@ const TEXT: &[u8] = b"chanhub journal 2\n\
 /// The story of a journal that is known to have a head and few entries.
 fn story(rt: &impl Abort, alloc: Global, journal: &ShortJournal) -> Result<Story, Fail> {
     let procs = journal.head().procs;
-    assert!(rt; 1 <= procs && procs <= MOST_PROCS && journal.entries().len() < 100);
+    assert!(rt; 1 <= procs && usize::from(procs) <= MOST_PROCS && journal.entries().len() < 100);
     Ok(story_of(alloc, journal)?)
 }
 

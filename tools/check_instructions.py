@@ -17,12 +17,12 @@ ROOT = os.path.join(os.path.dirname(os.path.abspath(__file__)), '..')
 LINES = 100000
 SKIPPED = 77
 
-# Date: 2026-11-29. Toolchain (`rt version`): `rattle-kit-13f logic dac8208d650f15bf`. Counted by valgrind 3.19.0.
+# Date: 2026-11-29; `bytes`: 2026-11-30. Toolchain (`rt version`): `rattle-kit-13f logic dac8208d650f15bf`. Counted by valgrind 3.19.0.
 WRITTEN = {
     'hand_overs': 37_879_791,
     'bursts': 24_502_916,
     'selects': 112_268_245,
-    'bytes': 70_636_826,
+    'bytes': 68_522_292,
     'open_calls': 76_917_714,
     'worst_close': 33_744_028,
 }

@@ -105,7 +105,7 @@ class Browser:
             os.dup2(ends[0], 3)
             os.dup2(ends[1], 4)
 
-        self.errors, self.buffer, self.number, self.session = [], b"", 0, None
+        self.errors, self.buffer, self.number, self.session, self.loaded = [], b"", 0, None, set()
         self.process = subprocess.Popen(words, preexec_fn=number_pipes, pass_fds=(3, 4), stdout=subprocess.DEVNULL, stderr=subprocess.DEVNULL)
         os.close(theirs_in)
         os.close(theirs_out)
@@ -113,6 +113,7 @@ class Browser:
         self.session = self.ask("Target.attachToTarget", targetId=target, flatten=True)["sessionId"]
         for domain in "Page", "Runtime", "Log":
             self.ask(domain + ".enable")
+        self.ask("Page.setLifecycleEventsEnabled", enabled=True)
         self.ask("Performance.enable", timeDomain="threadTicks")
         self.ask("Emulation.setDeviceMetricsOverride", width=WIDTH, height=HEIGHT, deviceScaleFactor=1, mobile=False)
 
@@ -124,6 +125,8 @@ class Browser:
         text, self.buffer = self.buffer.split(b"\0", 1)
         told = json.loads(text)
         method, more = told.get("method"), told.get("params", {})
+        if method == "Page.lifecycleEvent" and more["name"] == "load":
+            self.loaded.add(more["loaderId"])
         if method == "Runtime.exceptionThrown" or (method == "Log.entryAdded" and more["entry"]["level"] in ("error", "warning")):
             self.errors.append(json.dumps(more)[:400])
         if method == "Runtime.consoleAPICalled" and more["type"] in ("error", "warning", "assert"):
@@ -149,13 +152,17 @@ class Browser:
         assert "exceptionDetails" not in told, told["exceptionDetails"]
         return told["result"].get("value")
 
+    def load(self, url):
+        # the page before may answer that it is complete while the new one comes, and would get its first key
+        loader = self.ask("Page.navigate", url=url)["loaderId"]
+        while loader not in self.loaded:
+            self.read()
+
     def open(self, path, hash=""):
         # of the page that is open, another hash alone would load nothing
         if hash:
-            self.ask("Page.navigate", url="about:blank")
-        self.ask("Page.navigate", url=path.as_uri() + hash)
-        while self.value("document.readyState") != "complete":
-            pass
+            self.load("about:blank")
+        self.load(path.as_uri() + hash)
         self.settle()
 
     def settle(self):

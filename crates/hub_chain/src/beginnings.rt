@@ -6,8 +6,8 @@ ghost use Rattle.hub_chain.specs.Faults.{IsOtherHead, IsOtherBeginning};
 
 use crate::ChainFault;
 use crate::fault::line_of;
-use hub_base::{Case, EntryRef, Head, MOST_BYTES, Step, StepRef};
-use hub_core::ShortEntries;
+use hub_base::{EntryRef, Head, MOST_BYTES, Step, StepRef};
+use hub_core::{CaseRoom, ShortEntries};
 
 /// Whether a chapter's head is that of the chapter before.
 pub(crate) fn has_head(chapter: Head, head: Head) -> Result<(), ChainFault>
@@ -60,8 +60,8 @@ pub fn is_same_entry(entry: &EntryRef<'_>, other: &EntryRef<'_>) -> bool
 fn stands_at(entries: &ShortEntries, place: usize, entry: &hub_base::Entry) -> bool
     ensures { IsTrue result ↔ (slice_get entries.now place ≡ Some entry.now) }
 {
-    let mut one = Case::default();
-    match entries.get(place, &mut one) {
+    let mut room = CaseRoom::new();
+    match entries.get(place, &mut room) {
         Some(other) => is_same_entry(&other, &entry.by_slice()),
         None => false,
     }

@@ -6,8 +6,8 @@ ghost use Rattle.hub_chain.specs.Faults.{IsNotLegal, IsRefused};
 
 use crate::ChainFault;
 use crate::fault::refused_at;
-use hub_base::{Case, Events, MOST_STEPS};
-use hub_core::{ShortHub, ShortJournal, read_short_journal};
+use hub_base::{Events, MOST_STEPS};
+use hub_core::{CaseRoom, ShortHub, ShortJournal, read_short_journal};
 use std::alloc::Global;
 
 /// The hub that has made the journal's steps.
@@ -21,9 +21,9 @@ pub(crate) fn hub_of(alloc: Global, journal: &ShortJournal) -> Result<ShortHub, 
         return Err(ChainFault::NoMemory);
     };
     let mut events = Events::new();
-    let mut one = Case::default();
+    let mut room = CaseRoom::new();
     for place in 0..journal.entries().len() {
-        let entry = journal.entries().entry(place, &mut one);
+        let entry = journal.entries().entry(place, &mut room);
         match hub.step_into(&entry, &mut events) {
             Ok(()) => {}
             Err(fault) => {

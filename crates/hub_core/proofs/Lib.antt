@@ -15,6 +15,7 @@ pub mod Following
 pub mod Reached
 pub mod Hubs
 pub mod Journeys
+pub mod CaseLists
 pub mod Logs
 pub mod Counting
 pub mod Shorts

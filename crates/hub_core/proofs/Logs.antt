@@ -1,8 +1,10 @@
 -- Entries that are kept short, and how they are written out.
-use Rattle.std.proofs.Common.{◌≡◌, ◌∙◌, ◌++◌, ◌≤◌, ◌<◌, ◌+◌, ◌∷◌, [], Bool, ℕ, zero, suc, List, Some, None, length, take, drop}
+use Rattle.std.proofs.Common.{◌≡◌, ◌∙◌, ◌++◌, ◌≤◌, ◌<◌, ◌+◌, ◌∷◌, [], Bool, false, ℕ, zero, suc, List, Option, Some, None, length, take, drop}
 use Rattle.std.proofs.Common.{ap, sym, subst, refl, arith, append-nil, append_assoc, length-append}
 use Rattle.std.specs.Prelude.{get_or, slice_get, slice_index_or, vec_len}
 use Rattle.std.specs.Vec.{vec_capacity}
+use Rattle.std.specs.Option.{option_map, option_map_or}
+use Rattle.hub_laws.specs.Once.{is_call}
 use Rattle.std.proofs.lemmas.List.{take-append-le, drop-append-le, drop-drop, length-drop}
 use Rattle.std.proofs.lemmas.Option.{none-some, same_Some, slice_get_past, slice_get_read}
 use Rattle.std.proofs.Math.Seq.{take-length, drop-length, drop-cons}
@@ -175,6 +177,42 @@ one_out whole {more} {all} {bs} {cs} {own} {others} {i} {n} {d} {e} left count o
 
 pub none_written : (bs : List Brief) (cs : List Case) (i : ℕ) → length bs ≤ i → slice_get (written bs cs) i ≡ None
 none_written bs cs i past = slice_get_past (written bs cs) i (omega (arith, past, written_length bs cs))
+
+-- what is known of an entry whatever its cases are is known by what is kept of it
+pub brief-tells : {A : Type 0} (f : Entry → A) → ((b : Brief) (cs ds : List Case) → f (entry_of b cs) ≡ f (entry_of b ds))
+    → (bs : List Brief) (cs : List Case) (i : ℕ) (b : Brief) → (i < length bs) × ((d : Brief) → b ≡ get_or bs i d)
+    → option_map f (slice_get (written bs cs) i) ≡ Some (f (entry_of b []))
+unfolding written
+brief-tells f same bs cs i b (low, at) = there bs cs i (slice_get_read bs (length bs) i b refl low (at b))
+  where
+    there : (bs : List Brief) (cs : List Case) (i : ℕ) → slice_get bs i ≡ Some b → option_map f (slice_get (written bs cs) i) ≡ Some (f (entry_of b []))
+    there [] cs i is = absurd (none-some b is)
+    there (x ∷ bs) cs zero is =
+        ap Some (same x (take (case_count x) cs) []) ∙ ap (λ (y : Brief). Some (f (entry_of y []))) (same_Some x b is)
+    there (x ∷ bs) cs (suc i) is = there bs (drop (case_count x) cs) i is
+
+-- so where nothing stands, something else may be known
+pub mapped-is : (f : Entry → Bool) (o : Option Entry) (b : Bool) → option_map f o ≡ Some b → option_map_or f o false ≡ b
+mapped-is f None b is = absurd (none-some b is)
+mapped-is f (Some e) b is = same_Some (f e) b is
+
+pub same_pid : (b : Brief) (cs ds : List Case) → (entry_of b cs).pid ≡ (entry_of b ds).pid
+same_pid (brief.Send pid p number) cs ds = refl
+same_pid (brief.Recv pid p) cs ds = refl
+same_pid (brief.Call pid default count first word) cs ds = refl
+same_pid (brief.Make pid cap) cs ds = refl
+same_pid (brief.Close pid p) cs ds = refl
+same_pid (brief.Exit pid) cs ds = refl
+same_pid (brief.Cancel pid q) cs ds = refl
+
+pub same_kind : (b : Brief) (cs ds : List Case) → is_call (entry_of b cs).step ≡ is_call (entry_of b ds).step
+same_kind (brief.Send pid p number) cs ds = refl
+same_kind (brief.Recv pid p) cs ds = refl
+same_kind (brief.Call pid default count first word) cs ds = refl
+same_kind (brief.Make pid cap) cs ds = refl
+same_kind (brief.Close pid p) cs ds = refl
+same_kind (brief.Exit pid) cs ds = refl
+same_kind (brief.Cancel pid q) cs ds = refl
 
 -- a brief with its cases
 pub record Stands (bs : List Brief) (left all : List Case) (i : ℕ) (b : Brief) : Type 0 where

@@ -10,6 +10,8 @@ pub mod Follows
 pub mod Agrees
 pub mod Looks
 pub mod MachineKeeps
+pub mod CaseListView
+pub mod CaseListKeeps
 pub mod LogView
 pub mod LogKeeps
 pub mod HubView

@@ -13,7 +13,9 @@ log_shown l =
       short = length l.briefs.items;
       short_room = vec_capacity l.briefs;
       cases = length l.cases.items;
-      case_room = vec_capacity l.cases;
+      case_room = l.cases.room;
+      beside = l.cases.beside;
+      beside_room = l.cases.beside_room;
     }
 
 pub record LogKeeps (l : Inside) : Type 0 where

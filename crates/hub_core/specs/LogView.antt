@@ -25,6 +25,9 @@ pub record LogView : Type 0 where
   -- how many cases these have, and how many they can have before that has to grow
   pub cases : ℕ
   pub case_room : ℕ
+  -- how many of these cases send bytes, and how many such they can have before that has to grow
+  pub beside : ℕ
+  pub beside_room : ℕ
 
 -- ---- one entry
 
@@ -96,6 +99,7 @@ IsWhole e b = (first : ℕ) → IsBriefOf e first b
 pub record FitsShort (log : LogView) (e : Entry) : Type 0 where
   pub places : log.short + places_asked e.step ≤ log.short_room
   pub cases : log.cases + length (cases_of e) ≤ log.case_room
+  pub beside : log.beside + length (cases_of e) ≤ log.beside_room
   pub few : log.cases < 2 ^ 32
 
 -- there is room for all entries of another, kept as they are there
@@ -103,6 +107,7 @@ pub record HasRoomFor (log other : LogView) : Type 0 where
   pub whole : other.capacity ≤ log.capacity
   pub short : other.short ≤ log.short_room
   pub cases : other.cases ≤ log.case_room
+  pub beside : other.beside ≤ log.beside_room
 
 -- ---- entries in order
 

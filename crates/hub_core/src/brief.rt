@@ -1,13 +1,16 @@
 //! What is kept of an entry in 16 bytes, and how it is written out.
 
-ghost use Rattle.std.specs.Prelude.{◌≡◌, ◌≤◌, ◌+◌, ◌++◌, ◌∷◌, [], false, IfSome, length, slice_get, vec_len};
+ghost use Rattle.std.specs.Prelude.{◌≡◌, ◌≤◌, ◌+◌, ◌++◌, ◌∷◌, [], false, IfSome, drop, length, slice_get, take, vec_len};
 ghost use Rattle.std.specs.Vec.{vec_capacity};
 ghost use Rattle.hub_base.specs.declared.limits.TheConstants.{CASE_PLACES};
 ghost use Rattle.hub_base.specs.Lines.{by, call};
 ghost use Rattle.hub_base.specs.Values.{cases_at};
+ghost use Rattle.hub_laws.specs.Once.{is_call};
 ghost use Rattle.hub_core.specs.LogView.{AreBriefs, IsBriefOf, IsWhole, StandFrom};
 ghost use Rattle.hub_core.specs.LogView.{case_count, cases_beside, cases_of, entry_of, first_of, own_of, written};
 
+use crate::CaseRoom;
+use crate::case_list::CaseList;
 use hub_base::{Case, CaseSlice, Entry, EntryRef, Pid, Port, Step, Value};
 
 /// An entry without a list of cases.
@@ -140,14 +143,15 @@ pub(crate) fn cases_beside<'a>(entry: &EntryRef<'a>, brief: Brief) -> &'a [Case]
     }
 }
 
-/// A call of one case, which lies there.
-fn call_of_one(pid: Pid, case: &Case) -> EntryRef<'_>
-    ensures { result ≡ by pid.0 (call (case.now ∷ []) false 0) }
+/// A call of this case alone, which is put in the room for it.
+fn call_of_one(pid: Pid, case: Case, room: &mut CaseRoom) -> EntryRef<'_>
+    ensures { result ≡ by pid.0 (call (case ∷ []) false 0) }
 {
+    room.places[0] = case;
     Entry {
         pid,
         step: Step::Call {
-            cases: CaseSlice::one(case),
+            cases: CaseSlice::one(&room.places[0]),
             default: false,
             word: 0,
         },
@@ -175,21 +179,36 @@ impl Brief {
         }
     }
 
-    /// The cases that are not kept with it, of those of all entries.
-    pub(crate) fn own(self, cases: &[Case]) -> &[Case]
-        requires { first_of self + case_count self ≤ length cases.now }
-        ensures own { result.now ≡ own_of self cases.now }
-        ensures count { length result.now ≡ case_count self }
+    /// The process of its entry, whatever its cases are.
+    pub(crate) fn pid(self) -> Pid
+        ensures { result ≡ (entry_of self []).pid }
     {
-        let (_others, from) = cases.split_at(self.first());
-        let (own, _rest) = from.split_at(self.count());
-        own
+        match self {
+            Brief::Send { pid, .. } => pid,
+            Brief::Recv { pid, .. } => pid,
+            Brief::Call { pid, .. } => pid,
+            Brief::Make { pid, .. } => pid,
+            Brief::Close { pid, .. } => pid,
+            Brief::Exit { pid } => pid,
+            Brief::Cancel { pid, .. } => pid,
+        }
+    }
+
+    /// Whether its entry is a call, whatever its cases are.
+    pub(crate) fn is_call(self) -> bool
+        ensures { result ≡ is_call (entry_of self []).step }
+    {
+        match self {
+            Brief::Send { .. } | Brief::Recv { .. } | Brief::Call { .. } => true,
+            Brief::Make { .. } | Brief::Close { .. } | Brief::Exit { .. } | Brief::Cancel { .. } =>
+                { false }
+        }
     }
 
     /// The case of this number of its entry, if it has one; `cases` are those of all entries. No entry is made for it.
-    fn case(self, cases: &[Case], number: u8) -> Option<Case>
-        requires { first_of self + case_count self ≤ length cases.now }
-        ensures { result ≡ slice_get (cases_of (entry_of self (own_of self cases.now))) number }
+    fn case(self, cases: &CaseList, number: u8) -> Option<Case>
+        requires { first_of self + case_count self ≤ length cases.now.items }
+        ensures { result ≡ slice_get (cases_of (entry_of self (own_of self cases.now.items))) number }
     {
         match self {
             Brief::Send {
@@ -198,39 +217,43 @@ impl Brief {
                 ..
             } if number == 0 => Some(Case::Send(port, Value::num(sent))),
             Brief::Recv { port, .. } if number == 0 => Some(Case::Recv(port)),
-            Brief::Call { .. } => self.own(cases).get(usize::from(number)).copied(),
+            Brief::Call { count, first, .. } if number < count => {
+                cases.get(first as usize + usize::from(number))
+            }
             _ => None,
         }
     }
 
-    /// Its entry, with these cases where they are not kept with it. The case of a call that has one is put in the place for
-    /// it.
-    fn by_slice<'a>(self, cases: &'a [Case], one: &'a mut Case) -> EntryRef<'a>
-        requires { length cases.now ≤ CASE_PLACES }
-        ensures { result ≡ entry_of self cases.now }
+    /// Its entry, whose cases are put in the room for them. Where they are not kept with it, they begin there among those of all
+    /// entries.
+    fn by_slice<'a>(self, cases: &CaseList, first: usize, room: &'a mut CaseRoom) -> EntryRef<'a>
+        requires there { first + case_count self ≤ length cases.now.items }
+        requires few { case_count self ≤ CASE_PLACES }
+        ensures { result ≡ entry_of self (take (case_count self) (drop first cases.now.items)) }
     {
         match self {
             Brief::Send { pid, port, number } => {
-                *one = Case::Send(port, Value::num(number));
-                call_of_one(pid, one)
+                call_of_one(pid, Case::Send(port, Value::num(number)), room)
             }
-            Brief::Recv { pid, port } => {
-                *one = Case::Recv(port);
-                call_of_one(pid, one)
-            }
+            Brief::Recv { pid, port } => call_of_one(pid, Case::Recv(port), room),
             Brief::Call {
                 pid,
                 default,
+                count,
                 word,
                 ..
-            } => Entry {
-                pid,
-                step: Step::Call {
-                    cases: CaseSlice::few(cases),
-                    default,
-                    word,
-                },
-            },
+            } => {
+                let count = usize::from(count);
+                cases.copy_to(first, count, &mut room.places);
+                Entry {
+                    pid,
+                    step: Step::Call {
+                        cases: CaseSlice::few(&room.places[..count]),
+                        default,
+                        word,
+                    },
+                }
+            }
             Brief::Make { pid, cap } => Entry {
                 pid,
                 step: Step::Make(cap),
@@ -250,54 +273,60 @@ impl Brief {
         }
     }
 
-    /// Its entry, written out.
-    fn entry(self, cases: &[Case]) -> Entry
-        requires { length cases.now ≤ CASE_PLACES }
-        ensures { result ≡ entry_of self cases.now }
+    /// Its entry, written out. Its cases, where they are not kept with it, begin there.
+    fn entry(self, cases: &CaseList, first: usize) -> Entry
+        requires there { first + case_count self ≤ length cases.now.items }
+        requires few { case_count self ≤ CASE_PLACES }
+        ensures { result ≡ entry_of self (take (case_count self) (drop first cases.now.items)) }
     {
-        let mut one = Case::default();
-        self.by_slice(cases, &mut one).to_owned()
+        let mut room = CaseRoom::new();
+        self.by_slice(cases, first, &mut room).to_owned()
     }
 }
 
 /// Writes entries out that are kept short.
-pub(crate) fn write_out(whole: &mut Vec<Entry>, briefs: &[Brief], cases: &[Case])
-    requires briefs { AreBriefs briefs.now cases.now }
+pub(crate) fn write_out(whole: &mut Vec<Entry>, briefs: &[Brief], cases: &CaseList)
+    requires briefs { AreBriefs briefs.now cases.now.items }
     requires room { vec_len whole.old + length briefs.now ≤ vec_capacity whole.old }
-    ensures items { whole.new.items ≡ whole.old.items ++ written briefs.now cases.now }
+    ensures items { whole.new.items ≡ whole.old.items ++ written briefs.now cases.now.items }
     ensures capacity { vec_capacity whole.new ≡ vec_capacity whole.old }
 {
-    let mut rest = cases;
+    // This number is read, since its type tells how far the next one can go.
+    let _all = cases.len();
+    let mut at = 0;
     for brief in briefs {
-        let (own, others) = rest.split_at(brief.count());
-        whole.push_reserved(brief.entry(own));
-        rest = others;
+        whole.push_reserved(brief.entry(cases, at));
+        at += brief.count();
     }
 }
 
-/// The entry at this place of those that are kept short; `None` behind the last. The case of a call that has one is put in the
-/// place for it.
+/// The entry at this place of those that are kept short, whose cases are put in the room for them; `None` behind the last.
 pub(crate) fn short_at<'a>(
-    briefs: &'a [Brief],
-    cases: &'a [Case],
+    briefs: &[Brief],
+    cases: &CaseList,
     place: usize,
-    one: &'a mut Case,
+    room: &'a mut CaseRoom,
 ) -> Option<EntryRef<'a>>
-    requires briefs { AreBriefs briefs.now cases.now }
+    requires briefs { AreBriefs briefs.now cases.now.items }
     requires begin { StandFrom 0 briefs.now }
-    ensures { result ≡ slice_get (written briefs.now cases.now) place }
+    ensures { result ≡ slice_get (written briefs.now cases.now.items) place }
 {
     let Some(brief) = briefs.get(place) else {
         return None;
     };
-    Some(brief.by_slice(brief.own(cases), one))
+    Some(brief.by_slice(cases, brief.first(), room))
 }
 
 /// The case of this number of the entry at this place of those that are kept short, if there is one.
-pub(crate) fn short_case(briefs: &[Brief], cases: &[Case], place: usize, number: u8) -> Option<Case>
-    requires briefs { AreBriefs briefs.now cases.now }
+pub(crate) fn short_case(
+    briefs: &[Brief],
+    cases: &CaseList,
+    place: usize,
+    number: u8,
+) -> Option<Case>
+    requires briefs { AreBriefs briefs.now cases.now.items }
     requires begin { StandFrom 0 briefs.now }
-    ensures { result ≡ slice_get (cases_at (written briefs.now cases.now) place) number }
+    ensures { result ≡ slice_get (cases_at (written briefs.now cases.now.items) place) number }
 {
     let Some(brief) = briefs.get(place) else {
         return None;

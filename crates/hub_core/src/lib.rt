@@ -2,9 +2,11 @@
 #![tactic(auto)]
 
 mod admitted;
-mod beside;
 mod brief;
+mod case_list;
+mod case_room;
 mod closing;
+mod copies;
 mod exited;
 mod firing;
 mod form;
@@ -25,6 +27,7 @@ mod tally;
 mod terms;
 mod touching;
 
+pub use case_room::CaseRoom;
 pub use form::{Form, Short, Whole};
 pub use hub::{Hub, HubOf, ShortHub};
 pub use machine::Machine;

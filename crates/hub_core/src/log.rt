@@ -9,10 +9,12 @@ ghost use Rattle.std.specs.Prelude.{◌≡◌, ◌≤◌, ◌<◌, ◌+◌, ◌+
 ghost use Rattle.std.specs.Vec.{vec_capacity};
 ghost use Rattle.hub_core.specs.LogView.{FitsShort, HasRoomFor, places_asked};
 
-use crate::beside::{append_cases, put_beside};
+use crate::CaseRoom;
 use crate::brief::{Brief, brief_of, brief_of_plain, cases_beside, short_at, write_out};
+use crate::case_list::CaseList;
+use crate::copies::{copy_list, copy_list_over};
 use crate::short_entries::{ShortEntries, shortened};
-use hub_base::{Case, Entry, EntryRef, MOST_PROCS, Step};
+use hub_base::{Entry, EntryRef, MOST_PROCS, Step};
 use std::alloc::{AllocError, Global};
 use std::marker::Model;
 
@@ -24,7 +26,7 @@ pub(crate) struct Log {
     /// Those that are kept short.
     briefs: Vec<Brief>,
     /// The cases that are not kept there, one entry's after the other's.
-    cases: Vec<Case>,
+    cases: CaseList,
 }
 
 impl Model for Log {
@@ -85,27 +87,6 @@ fn copy_whole_over(entries: &mut Vec<Entry>, others: &[Entry])
     push_copies(entries, others);
 }
 
-/// Puts these items in place of those that are there. There is room for them.
-fn copy_list_over<T: Copy + Drop>(items: &mut Vec<T>, others: &[T])
-    requires { length others.now ≤ vec_capacity items.old }
-    ensures { items.new.items ≡ others.now }
-{
-    items.clear();
-    match items.extend_from_slice(others) {
-        Ok(()) => {}
-        Err(AllocError) => unreachable!(),
-    }
-}
-
-/// The same list.
-fn copy_list<T: Copy>(alloc: Global, items: &[T]) -> Result<Vec<T>, AllocError>
-    ensures { IfOk result (λ v. v.items ≡ items.now) }
-{
-    let mut copy = Vec::new(alloc);
-    copy.extend_from_slice(items)?;
-    Ok(copy)
-}
-
 impl Log {
     /// No entry, and room for so many.
     pub(crate) fn with_capacity(alloc: Global, capacity: usize) -> Result<Log, AllocError>
@@ -116,7 +97,7 @@ impl Log {
         Ok(Log {
             whole: Vec::with_capacity(alloc, capacity)?,
             briefs: Vec::new(alloc),
-            cases: Vec::new(alloc),
+            cases: CaseList::new(alloc),
         })
     }
 
@@ -129,7 +110,7 @@ impl Log {
         Ok(Log {
             whole: copy_whole(alloc, &self.whole, self.whole.capacity())?,
             briefs: copy_list(alloc, &self.briefs)?,
-            cases: copy_list(alloc, &self.cases)?,
+            cases: self.cases.copy(alloc)?,
         })
     }
 
@@ -142,7 +123,7 @@ impl Log {
     {
         self.whole.reserve(other.whole.capacity())?;
         self.briefs.reserve(other.briefs.len())?;
-        self.cases.reserve(other.cases.len())
+        self.cases.reserve_for(&other.cases)
     }
 
     /// Puts the entries of another in place of those that are there, as many of them kept short.
@@ -154,7 +135,7 @@ impl Log {
     {
         copy_whole_over(&mut self.whole, &other.whole);
         copy_list_over(&mut self.briefs, &other.briefs);
-        copy_list_over(&mut self.cases, &other.cases);
+        self.cases.copy_from(&other.cases);
     }
 
     /// Makes room for so many entries more, where there is not as much.
@@ -234,12 +215,12 @@ impl Log {
         // A comparison takes fewer instructions here than a conversion that may fail.
         let first = self.cases.len();
         if first > u32::MAX as usize
-            || self.cases.capacity() - first < beside.len()
+            || !self.cases.has_room(beside.len())
             || self.briefs.capacity() - self.briefs.len() <= MOST_PROCS
         {
             return false;
         }
-        put_beside(&mut self.cases, beside);
+        self.cases.put(beside);
         self.briefs.push_reserved(Brief::Call {
             pid: entry.pid,
             default,
@@ -300,7 +281,7 @@ impl Log {
             return false;
         }
         let brief = brief_of(entry, first);
-        let Ok(()) = append_cases(&mut self.cases, cases_beside(entry, brief)) else {
+        let Ok(()) = self.cases.append(cases_beside(entry, brief)) else {
             return false;
         };
         self.briefs.push_reserved(brief);
@@ -342,9 +323,9 @@ impl Log {
         match self.whole.get(place) {
             Some(entry) => Some(entry.copy()),
             None => {
-                let mut one = Case::default();
+                let mut room = CaseRoom::new();
                 let place = place - self.whole.len();
-                let entry = short_at(&self.briefs, &self.cases, place, &mut one)?;
+                let entry = short_at(&self.briefs, &self.cases, place, &mut room)?;
                 Some(entry.to_owned())
             }
         }

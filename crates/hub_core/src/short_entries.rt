@@ -1,22 +1,26 @@
 //! Entries that are kept short.
 
-ghost use Rattle.std.specs.Prelude.{◌≡◌, ◌<◌, ◌+◌, ◌++◌, ◌∷◌, [], IfOk, OnOk, Some, length, slice_get};
+ghost use Rattle.std.specs.Prelude.{◌≡◌, ◌<◌, ◌+◌, ◌++◌, ◌∷◌, [], IfOk, OnOk, Some, false, length, slice_get};
+ghost use Rattle.std.specs.Option.{option_map, option_map_or};
 ghost use Rattle.hub_base.specs.Values.{cases_at};
+ghost use Rattle.hub_laws.specs.Once.{is_call};
 ghost use Rattle.hub_core.specs.LogView.{AreBriefs, StandFrom, written};
 
-use crate::beside::append_cases;
+use crate::CaseRoom;
 use crate::brief::{Brief, brief_of, cases_beside, short_at, short_case, write_out};
-use hub_base::{Case, Entry, EntryRef};
+use crate::case_list::CaseList;
+use hub_base::{Case, Entry, EntryRef, Pid};
 use std::alloc::{AllocError, Global};
 use std::marker::Model;
 
-/// Entries in order, in less memory: each in 16 bytes, but for the cases of a call that has several, or sends bytes.
+/// Entries in order, in less memory: each in 16 bytes, and as much for each case of a call that has several, or sends bytes, which
+/// stand beside.
 #[derive(Drop)]
 pub struct ShortEntries {
     /// What is kept of each.
     briefs: Vec<Brief>,
     /// The cases that are not kept there, one entry's after the other's.
-    cases: Vec<Case>,
+    cases: CaseList,
 }
 
 impl Model for ShortEntries {
@@ -38,12 +42,12 @@ impl ShortEntries {
     {
         ShortEntries {
             briefs: Vec::new(alloc),
-            cases: Vec::new(alloc),
+            cases: CaseList::new(alloc),
         }
     }
 
     /// What is kept of entries, as a journal keeps it.
-    pub(crate) fn of(briefs: Vec<Brief>, cases: Vec<Case>) -> ShortEntries
+    pub(crate) fn of(briefs: Vec<Brief>, cases: CaseList) -> ShortEntries
         requires briefs { AreBriefs briefs.items cases.items }
         requires begin { StandFrom 0 briefs.items }
         ensures { result ≡ written briefs.items cases.items }
@@ -60,7 +64,7 @@ impl ShortEntries {
         };
         self.briefs.reserve(1)?;
         let brief = brief_of(entry, first);
-        append_cases(&mut self.cases, cases_beside(entry, brief))?;
+        self.cases.append(cases_beside(entry, brief))?;
         self.briefs.push_reserved(brief);
         Ok(())
     }
@@ -72,30 +76,29 @@ impl ShortEntries {
         self.briefs.len()
     }
 
-    /// The entry at this place, whose cases stay where they are, but that of a call that has one: it is put in the place for
-    /// it. `None` behind the last.
-    pub fn get<'a>(&'a self, place: usize, one: &'a mut Case) -> Option<EntryRef<'a>>
+    /// The entry at this place, whose cases are put in the room for them. `None` behind the last.
+    pub fn get<'a>(&self, place: usize, room: &'a mut CaseRoom) -> Option<EntryRef<'a>>
         ensures { result ≡ slice_get self.now place }
     {
-        short_at(&self.briefs, &self.cases, place, one)
+        short_at(&self.briefs, &self.cases, place, room)
     }
 
     /// The entry at this place, as `get` gives it.
-    pub fn entry<'a>(&'a self, place: usize, one: &'a mut Case) -> EntryRef<'a>
+    pub fn entry<'a>(&self, place: usize, room: &'a mut CaseRoom) -> EntryRef<'a>
         requires { place < length self.now }
         ensures { slice_get self.now place ≡ Some result }
     {
-        match self.get(place, one) {
+        match self.get(place, room) {
             Some(entry) => entry,
             None => unreachable!(),
         }
     }
 
     /// The cases of the entry at this place, as `get` gives it; none where it is no call, and behind the last.
-    pub fn cases_at<'a>(&'a self, place: usize, one: &'a mut Case) -> &'a [Case]
+    pub fn cases_at<'a>(&self, place: usize, room: &'a mut CaseRoom) -> &'a [Case]
         ensures { result.now ≡ cases_at self.now place }
     {
-        match self.get(place, one) {
+        match self.get(place, room) {
             Some(entry) => entry.step.cases(),
             None => &[],
         }
@@ -106,6 +109,26 @@ impl ShortEntries {
         ensures { result ≡ slice_get (cases_at self.now place) number }
     {
         short_case(&self.briefs, &self.cases, place, number)
+    }
+
+    /// The process of the entry at this place, for which no case is read; `None` behind the last.
+    pub fn pid_at(&self, place: usize) -> Option<Pid>
+        ensures { result ≡ option_map (λ e. e.pid) (slice_get self.now place) }
+    {
+        match self.briefs.get(place) {
+            Some(brief) => Some(brief.pid()),
+            None => None,
+        }
+    }
+
+    /// Whether the entry at this place is a call, for which no case is read.
+    pub fn is_call_at(&self, place: usize) -> bool
+        ensures { result ≡ option_map_or (λ e. is_call e.step) (slice_get self.now place) false }
+    {
+        match self.briefs.get(place) {
+            Some(brief) => brief.is_call(),
+            None => false,
+        }
     }
 
     /// All of them, written out.

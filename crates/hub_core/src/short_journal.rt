@@ -10,8 +10,8 @@ ghost use Rattle.hub_base.specs.Text.{IsText};
 ghost use Rattle.hub_text.specs.ReadJournal.{Gives, IsFaultOf};
 ghost use Rattle.hub_text.specs.Writing.{HasRoomFor};
 
-use crate::ShortEntries;
-use hub_base::{Case, Edition, Entry, Head, Journal, NoMemory, ReadFault};
+use crate::{CaseRoom, ShortEntries};
+use hub_base::{Edition, Entry, Head, Journal, NoMemory, ReadFault};
 use hub_text::{Reader, write_entry, write_head};
 use std::alloc::Global;
 use std::marker::Model;
@@ -119,9 +119,9 @@ fn write_lines(out: &mut Vec<u8>, edition: Edition, entries: &ShortEntries) -> R
     ensures capacity { vec_capacity out.old ≤ vec_capacity out.new }
     ensures succeeds { HasRoomFor out.old (flat_map line entries.now) → IsOk result }
 {
-    let mut one = Case::default();
+    let mut room = CaseRoom::new();
     for place in 0..entries.len() {
-        write_entry(out, edition, &entries.entry(place, &mut one))?;
+        write_entry(out, edition, &entries.entry(place, &mut room))?;
     }
     Ok(())
 }

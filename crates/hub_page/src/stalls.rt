@@ -9,7 +9,7 @@ ghost use Rattle.hub_page.specs.Stalls.{until, waiting_words, waits_beside, whom
 use crate::known::Known;
 use crate::number::put_number;
 use hub_base::{Case, Port};
-use hub_core::ShortEntries;
+use hub_core::{CaseRoom, ShortEntries};
 use hub_story::Told;
 use hub_story_text::{LastMoves, Mover};
 use std::alloc::AllocError;
@@ -79,8 +79,8 @@ fn any_of(pid: u8, stalled: &[Told]) -> bool
 fn waits_beside(entries: &ShortEntries, case: Case, pid: u8, told: &Told) -> bool
     ensures { result ≡ waits_beside entries.now case pid told.now }
 {
-    let mut one = Case::default();
-    is_of(pid, told) && any_beside(case, entries.cases_at(told.asked as usize, &mut one))
+    let mut room = CaseRoom::new();
+    is_of(pid, told) && any_beside(case, entries.cases_at(told.asked as usize, &mut room))
 }
 
 /// Whether one of these does.
@@ -216,13 +216,13 @@ fn put_call(out: &mut Vec<u8>, stall: &Stall<'_>, own: &Told) -> Result<(), Allo
     ensures { OnOk result (out.new.items ≡ out.old.items
         ++ call_words (entries_of stall.now.known.now) (until stall.now) stall.now.place stall.now.stalled.now own.now) }
 {
-    let mut one = Case::default();
+    let mut room = CaseRoom::new();
     let entries = stall.known.journal.entries();
     put_cases(
         out,
         stall,
         own,
-        entries.cases_at(own.asked as usize, &mut one),
+        entries.cases_at(own.asked as usize, &mut room),
     )
 }
 

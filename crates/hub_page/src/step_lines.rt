@@ -21,7 +21,8 @@ use crate::known::Known;
 use crate::levels::Levels;
 use crate::past::Past;
 use crate::stalls::{Stall, put_stall};
-use hub_base::{Case, EntryRef, NoMemory};
+use hub_base::{EntryRef, NoMemory};
+use hub_core::CaseRoom;
 use hub_story::Told;
 use hub_story_text::{LastMoves, count_of, stalled_of};
 use std::alloc::AllocError;
@@ -125,8 +126,8 @@ fn put_step(
     past.levels.note_all(entries, came)?;
     past.last.note_all(entries, came)?;
     past.parked.note_all(procs, came);
-    let mut one = Case::default();
-    let entry = entries.entry(place, &mut one);
+    let mut room = CaseRoom::new();
+    let entry = entries.entry(place, &mut room);
     block.note_step(entries, procs, entry.pid, came, past)?;
     put_line(
         out,

@@ -5,8 +5,8 @@ ghost use Rattle.hub_picture.specs.Drawings.{asked, ended_by, is_shown, shows};
 ghost use Rattle.hub_story.specs.Ends.{ended_at};
 
 use crate::Window;
-use hub_base::{Case, Entry};
-use hub_core::ShortEntries;
+use hub_base::Entry;
+use hub_core::{CaseRoom, ShortEntries};
 use hub_story::{Story, Told};
 use std::alloc::{AllocError, Global};
 
@@ -88,13 +88,13 @@ pub(crate) fn asked_in(
         all.items ≡ filter (is_shown shown window) (asked story.now 0 entries.now)) }
 {
     let mut all = Vec::new(alloc);
-    let mut one = Case::default();
+    let mut room = CaseRoom::new();
     for number in 0..entries.len().min(window.end as usize) {
         let place = number as u32;
         if shows_at(shown, window, story, place) {
             all.push(Asked {
                 place,
-                entry: entries.entry(number, &mut one).to_owned(),
+                entry: entries.entry(number, &mut room).to_owned(),
                 ended: story.end(number),
             })?;
         }

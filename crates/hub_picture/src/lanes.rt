@@ -4,8 +4,8 @@ ghost use Rattle.std.specs.Prelude.{◌≡◌, IfOk, None, replicate};
 ghost use Rattle.hub_picture.specs.Exits.{AreExits, with_exit};
 ghost use Rattle.hub_picture.specs.Lanes.{exits, lanes_of};
 
-use hub_base::{Case, What};
-use hub_core::ShortEntries;
+use hub_base::What;
+use hub_core::{CaseRoom, ShortEntries};
 use hub_story::Told;
 use std::alloc::{AllocError, Global};
 
@@ -22,10 +22,10 @@ pub struct Lane {
 fn exits(entries: &ShortEntries, pid: u8, told: &Told) -> bool
     ensures { result ≡ exits entries.now pid told.now }
 {
-    let mut one = Case::default();
+    let mut room = CaseRoom::new();
     told.event.pid.0 == pid
         && matches!(told.event.what, What::Done)
-        && match entries.get(told.asked as usize, &mut one) {
+        && match entries.get(told.asked as usize, &mut room) {
             Some(entry) => entry.step.is_exit(),
             None => false,
         }

@@ -10,7 +10,7 @@ use crate::Window;
 use crate::levels::{after, empty};
 use crate::moves::{Moves, OnPort};
 use hub_base::{Case, MOST_PORTS, Port};
-use hub_core::ShortEntries;
+use hub_core::{CaseRoom, ShortEntries};
 use hub_story::{Level, Told};
 use std::alloc::{AllocError, Global};
 
@@ -186,12 +186,12 @@ fn add_calls(
     ensures { let moves = standing.now.moves.now in OnOk result (all.new.items ≡ all.old.items
         ++ flat_map (waiters_of moves.entries.now moves.told.now standing.now.step) calls.now) }
 {
-    let mut one = Case::default();
+    let mut room = CaseRoom::new();
     for call in calls {
         let cases = standing
             .moves
             .entries
-            .cases_at(call.asked as usize, &mut one);
+            .cases_at(call.asked as usize, &mut room);
         add_cases(all, standing, call, cases)?;
     }
     Ok(())

@@ -1,14 +1,15 @@
 -- Waits that stand longest first, one by one.
 use Rattle.std.proofs.Common.{◌≡◌, ◌≤◌, ◌<◌, ◌+◌, ℕ, zero, suc, Bool, true, false, List, [], ◌∷◌, ◌++◌, length, take, drop}
-use Rattle.std.proofs.Common.{refl, ap, ◌∙◌, sym, arith, append_assoc, length-append, append-nil, add-one, get_or}
-use Rattle.std.specs.Prelude.{Option, Some, cond, count_by, nat_lt, insert, slice_get}
+use Rattle.std.proofs.Common.{refl, ap, ◌∙◌, sym, arith, inl, inr, append_assoc, length-append, append-nil, add-one, get_or}
+use Rattle.std.specs.Prelude.{Option, None, Some, ◌⊎◌, cond, count_by, nat_lt, insert, slice_get}
 use Rattle.std.specs.Int.{from_bool}
 use Rattle.std.specs.List.{cons_option, fold}
+use Rattle.std.specs.Option.{option_map_or}
 use Rattle.std.proofs.Math.Seq.{drop-cons}
 use Rattle.std.proofs.lemmas.Bool.{lt-ltb}
 use Rattle.std.proofs.lemmas.List.{drop_all}
 use Rattle.std.proofs.lemmas.List.Sums.{count_by_more_no, count_by_more_yes, fold-append}
-use Rattle.std.proofs.lemmas.Option.{get_or_from_slice_get}
+use Rattle.std.proofs.lemmas.Option.{get_or_from_slice_get, slice_get_cases}
 use Rattle.hub_base.specs.declared.value.Pid.{Pid}
 use Rattle.hub_base.specs.Entry.{Entry}
 use Rattle.hub_story.specs.declared.told.Told.{Told}
@@ -85,7 +86,7 @@ pub waits-next : (clock : Option Pid) (es : List Entry) (n : ℕ) (all : List To
 waits-next clock es n all = ap (waits_below clock es all) (add-one n)
 
 -- ---- how many entries are such
-pub count-next : {A : Type 0} (p : A → Bool) (xs : List A) (i : ℕ) (x : A) (b : Bool) (count : ℕ) → i < length xs → slice_get xs i ≡ Some x → b ≡ p x →
+count-next : {A : Type 0} (p : A → Bool) (xs : List A) (i : ℕ) (x : A) (b : Bool) (count : ℕ) → i < length xs → slice_get xs i ≡ Some x → b ≡ p x →
     count ≡ count_by p (take i xs) → count + from_bool b ≡ count_by p (take (i + 1) xs)
 count-next p xs i x true count below at is so =
     let here : p (get_or xs i x) ≡ true = ap p (get_or_from_slice_get xs i x x at) ∙ sym is in
@@ -93,6 +94,17 @@ count-next p xs i x true count below at is so =
 count-next p xs i x false count below at is so =
     let here : p (get_or xs i x) ≡ false = ap p (get_or_from_slice_get xs i x x at) ∙ sym is in
     omega (arith, so, count_by_more_no p xs i x below here)
+
+-- so where no such entry is at hand
+pub count-next-at : {A : Type 0} (p : A → Bool) (xs : List A) (i : ℕ) (b : Bool) (count : ℕ) → i < length xs →
+    b ≡ option_map_or p (slice_get xs i) false → count ≡ count_by p (take i xs) → count + from_bool b ≡ count_by p (take (i + 1) xs)
+count-next-at {A} p xs i b count below is so = at (slice_get_cases xs i).1
+  where
+    at : ((x : A) × (i < length xs) × (slice_get xs i ≡ Some x) × (get_or xs i x ≡ x)) ⊎ ((length xs ≤ i) × (slice_get xs i ≡ None)) →
+        count + from_bool b ≡ count_by p (take (i + 1) xs)
+    at (inl found) =
+        count-next p xs i found.0 b count below found.2 (is ∙ ap (λ (o : Option A). option_map_or p o false) found.2) so
+    at (inr past) = absurd (omega (arith, below, past.0))
 
 pub one-at-most : (b : Bool) → from_bool b ≤ 1
 one-at-most true = omega arith

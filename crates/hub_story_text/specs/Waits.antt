@@ -4,8 +4,8 @@ use Rattle.std.specs.Prelude.{decimal, length, take, slice_get, Option, None, So
 use Rattle.std.specs.List.{cons_option, flat_map, fold}
 use Rattle.std.specs.Option.{option_map_or}
 use Rattle.hub_base.specs.declared.value.Pid.{Pid}
-use Rattle.hub_base.specs.Entry.{Entry, Step}
-use Rattle.hub_base.specs.declared.entry.Step.TheVariants.{Call}
+use Rattle.hub_base.specs.Entry.{Entry}
+use Rattle.hub_laws.specs.Once.{is_call}
 use Rattle.hub_story.specs.declared.told.Told.{Told}
 use Rattle.hub_story.specs.Told.{end_of}
 use Rattle.hub_story_text.specs.declared.waits.TheConstants.{MOST_LONGEST}
@@ -13,10 +13,6 @@ use Rattle.hub_story_text.specs.declared.waits.Wait.{Wait}
 use Rattle.hub_story_text.specs.declared.waits.Waits.{Waits}
 use Rattle.hub_story_text.specs.Clock.{is_clock, is_by_clock}
 use Rattle.hub_story_text.specs.LineText.{told_line}
-
-abbrev pub is_call : Step → Bool
-is_call (Call cases default word) = true
-is_call other = false
 
 -- the entry is a call, and not the clock's
 abbrev pub counts : Option Pid → Entry → Bool

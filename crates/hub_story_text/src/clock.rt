@@ -5,7 +5,7 @@ ghost use Rattle.hub_story_text.specs.Clock.{clock_of, is_by_clock, is_clock, is
 ghost use Rattle.hub_story_text.specs.Clock.{makes_first, makes_some, part_of, to_others};
 
 use hub_base::{Case, EntryRef, Pid, Step, StepRef};
-use hub_core::{ShortEntries, ShortJournal};
+use hub_core::{CaseRoom, ShortEntries, ShortJournal};
 use hub_story::Told;
 use std::alloc::{AllocError, Global};
 
@@ -69,9 +69,9 @@ fn is_made(kind: Kind, pid: Pid, entry: &EntryRef<'_>) -> bool
 fn makes_some(kind: Kind, pid: Pid, entries: &ShortEntries) -> bool
     ensures { result ≡ makes_some kind pid.0 entries.now }
 {
-    let mut one = Case::default();
+    let mut room = CaseRoom::new();
     for place in 0..entries.len() {
-        if is_made(kind, pid, &entries.entry(place, &mut one)) {
+        if is_made(kind, pid, &entries.entry(place, &mut room)) {
             return true;
         }
     }
@@ -82,9 +82,8 @@ fn makes_some(kind: Kind, pid: Pid, entries: &ShortEntries) -> bool
 fn makes_first(pid: Pid, entries: &ShortEntries) -> bool
     ensures { result ≡ makes_first pid.0 entries.now }
 {
-    let mut one = Case::default();
-    match entries.get(0, &mut one) {
-        Some(entry) => entry.pid.0 == pid.0,
+    match entries.pid_at(0) {
+        Some(first) => first.0 == pid.0,
         None => false,
     }
 }
@@ -125,9 +124,8 @@ pub(crate) fn is_clock(clock: Option<Pid>, pid: Pid) -> bool
 pub(crate) fn is_by_clock(clock: Option<Pid>, entries: &ShortEntries, place: u32) -> bool
     ensures { result ≡ is_by_clock clock entries.now place }
 {
-    let mut one = Case::default();
-    match entries.get(place as usize, &mut one) {
-        Some(entry) => is_clock(clock, entry.pid),
+    match entries.pid_at(place as usize) {
+        Some(pid) => is_clock(clock, pid),
         None => false,
     }
 }

@@ -3,8 +3,8 @@
 ghost use Rattle.std.specs.Prelude.{◌≡◌, IfOk, filter};
 ghost use Rattle.hub_story_text.specs.Closers.{closed_port, closer_of, closes, is_close, port_closed};
 
-use hub_base::{Case, Port, Step, StepRef, What};
-use hub_core::ShortEntries;
+use hub_base::{Port, Step, StepRef, What};
+use hub_core::{CaseRoom, ShortEntries};
 use hub_story::Told;
 use std::alloc::{AllocError, Global};
 
@@ -25,8 +25,8 @@ fn closed_port(entries: &ShortEntries, told: &Told) -> Option<Port>
     if !matches!(told.event.what, What::Done) {
         return None;
     }
-    let mut one = Case::default();
-    match entries.get(told.asked as usize, &mut one) {
+    let mut room = CaseRoom::new();
+    match entries.get(told.asked as usize, &mut room) {
         Some(entry) => port_closed(&entry.step),
         None => None,
     }

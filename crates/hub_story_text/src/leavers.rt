@@ -3,8 +3,8 @@
 ghost use Rattle.std.specs.Prelude.{◌≡◌, ◌∷◌, ◌++◌, [], filter, OnOk};
 ghost use Rattle.hub_story_text.specs.Leavers.{leaves};
 
-use hub_base::{Case, Step, What};
-use hub_core::ShortEntries;
+use hub_base::{Step, What};
+use hub_core::{CaseRoom, ShortEntries};
 use hub_story::Told;
 use std::alloc::AllocError;
 
@@ -12,12 +12,14 @@ use std::alloc::AllocError;
 fn leaves(entries: &ShortEntries, told: &Told) -> bool
     ensures { result ≡ leaves entries.now told.now }
 {
-    let mut one = Case::default();
-    matches!(told.event.what, What::Done)
-        && match entries.get(told.asked as usize, &mut one) {
-            Some(entry) => matches!(entry.step, Step::Exit),
-            None => false,
-        }
+    if !matches!(told.event.what, What::Done) {
+        return false;
+    }
+    let mut room = CaseRoom::new();
+    match entries.get(told.asked as usize, &mut room) {
+        Some(entry) => matches!(entry.step, Step::Exit),
+        None => false,
+    }
 }
 
 /// Takes in who leaves by the next event, if anybody does.

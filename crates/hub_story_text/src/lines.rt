@@ -49,9 +49,8 @@ fn put_still(out: &mut Vec<u8>, place: u32, count: usize) -> Result<(), AllocErr
 fn put_step(out: &mut Vec<u8>, entries: &ShortEntries, place: u32) -> Result<(), AllocError>
     ensures { OnOk result (out.new.items ≡ out.old.items ++ step_words entries.now place) }
 {
-    let mut one = Case::default();
-    if let Some(entry) = entries.get(place as usize, &mut one) {
-        put_number(out, b"P", entry.pid.0.into())?;
+    if let Some(pid) = entries.pid_at(place as usize) {
+        put_number(out, b"P", pid.0.into())?;
     }
     put_number(out, b", step ", number_of(place))
 }

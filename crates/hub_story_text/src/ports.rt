@@ -13,8 +13,8 @@ use crate::closers::{closer_of, closes_of};
 use crate::fullest::Fullest;
 use crate::numbers::{number_of, put_number};
 use crate::port_moves::PortMoves;
-use hub_base::{Case, Port, Step, What};
-use hub_core::ShortJournal;
+use hub_base::{Port, Step, What};
+use hub_core::{CaseRoom, ShortJournal};
 use hub_story::{Level, Story, Told};
 use std::alloc::AllocError;
 
@@ -23,8 +23,8 @@ fn put_cap(out: &mut Vec<u8>, journal: &ShortJournal, place: u32) -> Result<(), 
     ensures { OnOk result (out.new.items ≡
         out.old.items ++ option_map_or (λ e. cap_words e.step) (slice_get journal.now.entries place) []) }
 {
-    let mut one = Case::default();
-    let Some(entry) = journal.entries().get(place as usize, &mut one) else {
+    let mut room = CaseRoom::new();
+    let Some(entry) = journal.entries().get(place as usize, &mut room) else {
         return Ok(());
     };
     match entry.step {

@@ -16,7 +16,8 @@ use crate::explained::{Explained, put_painted_line};
 use crate::last_moves::LastMoves;
 use crate::packed_text::PackedText;
 use crate::waiters::put_waiters;
-use hub_base::{Case, NoMemory};
+use hub_base::NoMemory;
+use hub_core::CaseRoom;
 use hub_story::Told;
 use std::alloc::{AllocError, Global};
 
@@ -93,12 +94,12 @@ pub(crate) fn put_steps(
 {
     let entries = explained.journal.entries();
     let mut line = Vec::new(*moves.left.allocator());
-    let mut one = Case::default();
+    let mut room = CaseRoom::new();
     let mut rest: &[Told] = &explained.story.told;
     for place in 0..entries.len() {
         let (came, later) = rest.split_at(count_of(rest, place as u32));
         moves.note_all(entries, came)?;
-        let entry = entries.entry(place, &mut one);
+        let entry = entries.entry(place, &mut room);
         if window.has(place as u32) {
             line.clear();
             put_painted_line(&mut line, explained, place as u32, &entry, came)?;

@@ -8,7 +8,7 @@ ghost use Rattle.hub_story_text.specs.WaiterText.{case_words, left_words, mover_
 use crate::last_moves::{LastMoves, Mover};
 use crate::numbers::{number_of, put_number};
 use hub_base::{Case, Port};
-use hub_core::ShortEntries;
+use hub_core::{CaseRoom, ShortEntries};
 use hub_story::Told;
 use std::alloc::AllocError;
 
@@ -97,8 +97,8 @@ fn put_waiter(
         ++ waiter_words entries.now (mover_at moves.now.sent.items) (mover_at moves.now.received.items) told.now) }
 {
     put_who(out, b" waits since step ", told)?;
-    let mut one = Case::default();
-    put_cases(out, moves, entries.cases_at(told.asked as usize, &mut one))
+    let mut room = CaseRoom::new();
+    put_cases(out, moves, entries.cases_at(told.asked as usize, &mut room))
 }
 
 /// Appends these calls.

@@ -1,16 +1,17 @@
 //! How many calls waited, and which of them waited longest.
 
-ghost use Rattle.std.specs.Prelude.{◌≡◌, ◌≤◌, ◌<◌, ◌+◌, ◌-◌, ◌^◌, ◌++◌, List, [], count_by, insert, length, take, IfOk, OnOk};
+ghost use Rattle.std.specs.Prelude.{◌≡◌, ◌≤◌, ◌<◌, ◌+◌, ◌-◌, ◌^◌, ◌++◌, List, [], count_by, false, insert, length, slice_get, take, IfOk, OnOk};
 ghost use Rattle.std.specs.List.{cons_option, flat_map};
+ghost use Rattle.std.specs.Option.{option_map_or};
 ghost use Rattle.hub_story_text.specs.declared.waits.Wait.{Wait};
 ghost use Rattle.hub_story_text.specs.Explained.{IsExplained, entries_of, told_of};
-ghost use Rattle.hub_story_text.specs.Waits.{AreWaits, counts, is_call, line_at, told_wait, wait_of, waits, waits_text, with_wait};
+ghost use Rattle.hub_story_text.specs.Waits.{AreWaits, counts, line_at, told_wait, wait_of, waits, waits_text, with_wait};
 
 use crate::clock::{is_by_clock, is_clock};
 use crate::explained::{Explained, put_told_line};
 use crate::numbers::put_number;
-use hub_base::{Case, EntryRef, NoMemory, Pid, Step, StepRef};
-use hub_core::ShortEntries;
+use hub_base::{NoMemory, Pid};
+use hub_core::{CaseRoom, ShortEntries};
 use hub_story::Told;
 use std::alloc::{AllocError, Global};
 
@@ -123,18 +124,14 @@ impl Waits {
     }
 }
 
-/// Whether the step is a call.
-fn is_call(step: &StepRef<'_>) -> bool
-    ensures { result ≡ is_call step.now }
+/// Whether the entry at this place is a call, and not the clock's.
+fn counts(clock: Option<Pid>, entries: &ShortEntries, place: usize) -> bool
+    ensures { result ≡ option_map_or (counts clock) (slice_get entries.now place) false }
 {
-    matches!(step, Step::Call { .. })
-}
-
-/// Whether the entry is a call, and not the clock's.
-fn counts(clock: Option<Pid>, entry: &EntryRef<'_>) -> bool
-    ensures { result ≡ counts clock entry.now }
-{
-    is_call(&entry.step) && !is_clock(clock, entry.pid)
+    match entries.pid_at(place) {
+        Some(pid) => entries.is_call_at(place) && !is_clock(clock, pid),
+        None => false,
+    }
 }
 
 /// How many of these entries are calls, and not the clock's.
@@ -142,9 +139,8 @@ fn calls_of(clock: Option<Pid>, entries: &ShortEntries) -> usize
     ensures { result ≡ count_by (counts clock) entries.now }
 {
     let mut calls = 0;
-    let mut one = Case::default();
     for place in 0..entries.len() {
-        calls += usize::from(counts(clock, &entries.entry(place, &mut one)));
+        calls += usize::from(counts(clock, entries, place));
     }
     calls
 }
@@ -155,9 +151,9 @@ fn put_wait(out: &mut Vec<u8>, explained: &Explained, wait: Wait) -> Result<(), 
     ensures { OnOk result (out.new.items ≡
         out.old.items ++ line_at explained.now.clock (entries_of explained.now) (told_of explained.now) wait) }
 {
-    let mut one = Case::default();
+    let mut room = CaseRoom::new();
     let entries = explained.journal.entries();
-    let Some(entry) = entries.get(wait.place as usize, &mut one) else {
+    let Some(entry) = entries.get(wait.place as usize, &mut room) else {
         return Ok(());
     };
     put_told_line(out, explained, wait.place, &entry, &[])

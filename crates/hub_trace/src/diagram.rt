@@ -13,8 +13,8 @@ use crate::moves::{Move, Way, move_of};
 use crate::pen::Pen;
 use crate::pieces::{Piece, number_of, put_pieces};
 use crate::ports::has_room;
-use hub_base::{Case, EntryRef, NoMemory, Port};
-use hub_core::{ShortEntries, ShortJournal};
+use hub_base::{EntryRef, NoMemory, Port};
+use hub_core::{CaseRoom, ShortEntries, ShortJournal};
 use hub_story::{Story, Told};
 use hub_story_text::PackedText;
 use std::alloc::{AllocError, Global};
@@ -156,8 +156,8 @@ fn put_note_of(out: &mut Vec<u8>, told: &Told, entry: &EntryRef<'_>) -> Result<(
 fn put_note(out: &mut Vec<u8>, entries: &ShortEntries, told: &Told) -> Result<(), NoMemory>
     ensures { OnOk result (out.new.items ≡ out.old.items ++ note_text entries.now told.now) }
 {
-    let mut one = Case::default();
-    match entries.get(told.asked as usize, &mut one) {
+    let mut room = CaseRoom::new();
+    match entries.get(told.asked as usize, &mut room) {
         Some(entry) => put_note_of(out, told, &entry),
         None => Ok(()),
     }

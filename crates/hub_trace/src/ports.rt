@@ -4,8 +4,8 @@ ghost use Rattle.std.specs.Prelude.{◌≡◌, IfOk};
 ghost use Rattle.std.specs.List.{filter_map};
 ghost use Rattle.hub_trace.specs.Ports.{has_room, made_with_room, room_at, room_of, with_room};
 
-use hub_base::{Case, Port, Step, StepRef, What};
-use hub_core::ShortEntries;
+use hub_base::{Port, Step, StepRef, What};
+use hub_core::{CaseRoom, ShortEntries};
 use hub_story::Told;
 use std::alloc::{AllocError, Global};
 
@@ -23,8 +23,8 @@ fn room_of(step: &StepRef<'_>) -> u32
 pub(crate) fn room_at(entries: &ShortEntries, place: u32) -> u32
     ensures { result ≡ room_at entries.now place }
 {
-    let mut one = Case::default();
-    match entries.get(place as usize, &mut one) {
+    let mut cases = CaseRoom::new();
+    match entries.get(place as usize, &mut cases) {
         Some(entry) => room_of(&entry.step),
         None => 0,
     }

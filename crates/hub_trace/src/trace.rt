@@ -11,8 +11,8 @@ use self::body::push_trace;
 use crate::pen::Pen;
 use crate::pieces::{Piece, number_of, put_pieces};
 use crate::traffic::Traffic;
-use hub_base::{Case, EntryRef, NoMemory, Step, StepRef, What};
-use hub_core::{ShortEntries, ShortJournal};
+use hub_base::{EntryRef, NoMemory, Step, StepRef, What};
+use hub_core::{CaseRoom, ShortEntries, ShortJournal};
 use hub_story::{Story, Told};
 use hub_story_text::PackedText;
 use std::alloc::Global;
@@ -155,8 +155,8 @@ impl Pen<Told> for Events<'_> {
     ghost text = { λ events. event_text events.0.now };
 
     fn put(&self, out: &mut Vec<u8>, told: &Told) -> Result<(), NoMemory> {
-        let mut one = Case::default();
-        match self.0.get(told.asked as usize, &mut one) {
+        let mut room = CaseRoom::new();
+        match self.0.get(told.asked as usize, &mut room) {
             Some(entry) => put_told(out, told, &entry),
             None => Ok(()),
         }
@@ -171,8 +171,8 @@ impl Pen<Told> for Waiting<'_> {
     ghost text = { λ waiting. still_text waiting.0.now };
 
     fn put(&self, out: &mut Vec<u8>, told: &Told) -> Result<(), NoMemory> {
-        let mut one = Case::default();
-        match self.0.get(told.asked as usize, &mut one) {
+        let mut room = CaseRoom::new();
+        match self.0.get(told.asked as usize, &mut room) {
             Some(entry) => put_slice(out, b"wait", self.0.len() as u64, told, &entry),
             None => Ok(()),
         }

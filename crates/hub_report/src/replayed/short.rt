@@ -4,8 +4,8 @@ ghost use Rattle.std.specs.Prelude.{◌≤◌, IfOk};
 ghost use Rattle.hub_report.specs.Prelude.{IsHead, IsLegal, Tells, steps_of};
 
 use super::Replayed;
-use hub_base::{Case, Events, MOST_STEPS, NoMemory};
-use hub_core::ShortJournal;
+use hub_base::{Events, MOST_STEPS, NoMemory};
+use hub_core::{CaseRoom, ShortJournal};
 use std::alloc::Global;
 
 /// Replays a legal journal, of which no entry is written out.
@@ -17,10 +17,10 @@ pub(crate) fn replay_short(alloc: Global, journal: &ShortJournal) -> Result<Repl
 {
     let mut replayed = Replayed::new(alloc, journal.head())?;
     let mut events = Events::new();
-    let mut one = Case::default();
+    let mut room = CaseRoom::new();
     let entries = journal.entries();
     for place in 0..entries.len() {
-        let entry = entries.entry(place, &mut one);
+        let entry = entries.entry(place, &mut room);
         replayed.machine.answer(&entry, &mut events)?;
         replayed.add(&entry.step, &events);
     }

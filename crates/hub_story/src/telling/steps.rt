@@ -8,8 +8,8 @@ ghost use Rattle.hub_story.specs.Told.{told as all_told};
 use super::tell;
 use crate::Told;
 use crate::last_calls::{no_calls, note_call};
-use hub_base::{Case, Events, NoMemory};
-use hub_core::{Machine, ShortJournal};
+use hub_base::{Events, NoMemory};
+use hub_core::{CaseRoom, Machine, ShortJournal};
 use std::alloc::Global;
 
 /// Has a new machine make all steps of a journal, and tells their events.
@@ -26,9 +26,9 @@ fn tell_steps(
     let mut calls = no_calls();
     let entries = journal.entries();
     let mut events = Events::new();
-    let mut one = Case::default();
+    let mut room = CaseRoom::new();
     for place in 0..entries.len() {
-        let entry = entries.entry(place, &mut one);
+        let entry = entries.entry(place, &mut room);
         machine.answer(&entry, &mut events)?;
         note_call(&mut calls, place as u32, &entry, &events);
         tell(told, &calls, place as u32, &events)?;

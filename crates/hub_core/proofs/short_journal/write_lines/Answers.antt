@@ -3,6 +3,7 @@ use Rattle.std.proofs.Math.Seq.{take-suc}
 use Rattle.std.proofs.lemmas.List.{flat_map_more}
 use Rattle.std.proofs.lemmas.List.Folds.{length-flat_map-take}
 use Rattle.std.proofs.lemmas.Option.{get_or_from_slice_get}
+use Rattle.std.proofs.lemmas.Result.{err_from_is_err_and}
 use Rattle.std.specs.List.{flat_map}
 use Rattle.hub_base.specs.Entry.{Entry}
 use Rattle.hub_base.specs.Lines.{line}
@@ -28,6 +29,12 @@ loop-place-preserved c =
           ∙ ap (λ xs. c.args.out.now.items ++ flat_map line xs) (sym grown);
       capacity = omega (arith, c.loop-place.invariant.capacity, c.in_ok-write_entry.ensures.capacity);
     }
+
+pub returns-in_err-write_entry-clause-err : goal.returns-in_err-write_entry-clause-err
+returns-in_err-write_entry-clause-err c =
+    let so_far = flat_map line (take c.loop-place.place c.args.entries.now) in
+    let failed = err_from_is_err_and c.from_residual.result c.from_residual.ensures.1 in
+    rw failed.1 (so_far, c.in_err-write_entry.ensures.err ∙ c.loop-place.invariant.items)
 
 pub returns-in_err-write_entry-clause-succeeds : goal.returns-in_err-write_entry-clause-succeeds
 returns-in_err-write_entry-clause-succeeds c = λ room.

@@ -1,18 +1,17 @@
-use Rattle.std.proofs.Common.{◌≡◌, ◌∙◌, ◌++◌, ◌∷◌, [], List, ap, length, arith}
+use Rattle.std.proofs.Common.{◌∙◌, ◌++◌, ◌∷◌, [], List, ap, length}
 use Rattle.hub_base.specs.Entry.{Entry}
 use Rattle.hub_core.specs.LogView.{LogView}
 use Rattle.hub_core.proofs.Logs.{Gains, gains_beside, room_for_more}
 use Rattle.hub_core.proofs.log.Log.keeps_call.Goals.{After-push_reserved}
 use Rattle.hub_core.proofs.log.Log.keeps_call.Goals as goal
 
-gained : (c : After-push_reserved) → Gains c.self.inside.briefs.items c.push_reserved.new.self.items c.self.inside.cases.items c.put_beside.new.cases.items
+gained : (c : After-push_reserved) → Gains c.self.inside.briefs.items c.push_reserved.new.self.items c.self.inside.cases.items c.put.new.self.items
     c.args.entry.now
 gained c =
     let own = c.as_slice-beside.ensures.cases in
-    let behind : c.len-first.result ≡ length c.self.inside.cases.items = grind (arith, c.len-first.ensures, c.self.inside.cases.ok) in
     gains_beside c.args.entry.now c.in-Call.cases c.in-Call.default c.in-Call.word c.len-first.result (length c.as_slice-beside.result.now)
-    c.self.invariant.briefs c.in-Call.is (ap length own) behind c.push_reserved.ensures.items own c.as_slice-beside.ensures.few
-    c.put_beside.ensures
+    c.self.invariant.briefs c.in-Call.is (ap length own) c.len-first.ensures c.push_reserved.ensures.items own c.as_slice-beside.ensures.few
+    c.put.ensures
 
 pub invariant_of-self : goal.invariant_of-self
 invariant_of-self c = record {

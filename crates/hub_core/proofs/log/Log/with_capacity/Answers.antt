@@ -4,7 +4,7 @@ use Rattle.hub_core.proofs.log.Log.with_capacity.Goals as goal
 
 pub invariant_of-result : goal.invariant_of-result
 invariant_of-result c = record {
-  briefs = none_short c.new.result.items c.new-2.result.items c.new.ensures.items c.new-2.ensures.items;
+  briefs = none_short c.new.result.items c.new-2.result.items c.new.ensures.items c.new-2.ensures;
   begin = none_begins c.new.result.items c.new.ensures.items;
   room = omega (arith, c.in_ok-with_capacity.ensures.len, ap length c.new.ensures.items);
 }

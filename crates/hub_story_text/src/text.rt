@@ -4,8 +4,8 @@ ghost use Rattle.std.specs.Prelude.{◌≡◌, ◌<◌, ◌-◌, ◌^◌, ◌++�
 ghost use Rattle.hub_story.specs.Stories.{IsStoryOf};
 ghost use Rattle.hub_story_text.specs.Explained.{IsExplained, entries_of, told_of};
 ghost use Rattle.hub_story_text.specs.LastMoves.{AreLast, IsWhole};
-ghost use Rattle.hub_story_text.specs.PortMoves.{AreMoves};
-ghost use Rattle.hub_story_text.specs.StoryText.{painted_text, story_text, text_with};
+ghost use Rattle.hub_story_text.specs.Partners.{AreIn, ways};
+ghost use Rattle.hub_story_text.specs.StoryText.{painted_text, ports_text, story_text, text_with};
 
 use crate::Window;
 use crate::clock::{clock_of, to_others};
@@ -31,16 +31,40 @@ const END_HEADING: &[u8] = b"in the end these wait\n";
 
 const END_NOBODY: &[u8] = b"in the end no call waits\n";
 
-/// Appends the story of a journal, by what is known of its values; `last` comes to tell who moved one last.
+/// What is known of the values of a journal before its steps are told.
+struct Carried {
+    /// For each entry the other one of the passage in which it stands.
+    partners: Vec<Option<u32>>,
+    /// The lines of the ports.
+    ports: Vec<u8>,
+}
+
+/// What is known of the values of a journal. The list of all moves is let go with it, before the text takes as much memory.
+fn carried_of(alloc: Global, journal: &ShortJournal, story: &Story) -> Result<Carried, NoMemory>
+    requires story { IsStoryOf journal.now story.now }
+    ensures partners { IfOk result (λ carried.
+        AreIn (ways journal.now.entries story.now.told.items) (length journal.now.entries) carried.partners.items) }
+    ensures ports { IfOk result (λ carried.
+        carried.ports.items ≡ ports_text journal.now.entries story.now.told.items) }
+{
+    let moves = PortMoves::of(alloc, journal.entries(), &story.told)?;
+    let mut ports = Vec::new(alloc);
+    put_ports(&mut ports, journal, story, &moves)?;
+    let partners = partners_of(alloc, journal, story, &moves)?;
+    Ok(Carried { partners, ports })
+}
+
+/// Appends the story of a journal, by what is known of its values; `last` comes to tell who moved one last, and `ports` are the
+/// lines of the ports.
 fn put_story(
     out: &mut PackedText,
     last: &mut LastMoves,
     explained: &Explained,
-    moves: &PortMoves,
+    ports: Vec<u8>,
     window: Window,
 ) -> Result<(), NoMemory>
     requires explained { IsExplained explained.now }
-    requires moves { AreMoves (entries_of explained.now) (told_of explained.now) moves.now }
+    requires ports { ports.items ≡ ports_text (entries_of explained.now) (told_of explained.now) }
     requires none { AreLast (entries_of explained.now) [] last.old }
     requires whole { IsWhole last.old }
     ensures { OnOk result (out.new.items ≡
@@ -49,8 +73,7 @@ fn put_story(
 {
     out.push(HEADING)?;
     put_steps(out, last, explained, window)?;
-    let mut rest = Vec::new(*last.left.allocator());
-    put_ports(&mut rest, explained.journal, explained.story, moves)?;
+    let mut rest = ports;
     put_waits(&mut rest, explained)?;
     let others = to_others(
         *last.left.allocator(),
@@ -84,8 +107,7 @@ fn push_painted(
         out.new.items ≡ out.old.items
         ++ painted_text paint window journal.now.head journal.now.entries story.now.told.items) }
 {
-    let moves = PortMoves::of(alloc, journal.entries(), &story.told)?;
-    let partners = partners_of(alloc, journal, story, &moves)?;
+    let Carried { partners, ports } = carried_of(alloc, journal, story)?;
     let explained = Explained {
         journal,
         story,
@@ -94,7 +116,7 @@ fn push_painted(
         paint,
     };
     let mut last = LastMoves::new(alloc)?;
-    put_story(out, &mut last, &explained, &moves, window)
+    put_story(out, &mut last, &explained, ports, window)
 }
 
 /// Appends the story of a journal, without colours.

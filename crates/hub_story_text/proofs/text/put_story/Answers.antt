@@ -1,18 +1,11 @@
-use Rattle.std.proofs.Common.{◌∙◌, ◌++◌, ap, sym, arith, length}
+use Rattle.std.proofs.Common.{◌∙◌, ◌++◌, ap, length}
 use Rattle.hub_story.specs.Levels.{told_by}
-use Rattle.hub_story.proofs.Filling.{told_by-all}
 use Rattle.hub_story_text.specs.Explained.{entries_of, told_of}
 use Rattle.hub_story_text.specs.StoryText.{heading, end_heading, end_nobody, ports_text, steps_text}
 use Rattle.hub_story_text.specs.Waits.{waits_text}
 use Rattle.hub_story_text.proofs.Chains.{five-behind}
 use Rattle.hub_story_text.proofs.StepTexts.{waiters-told}
 use Rattle.hub_story_text.proofs.text.put_story.Goals as goal
-
-pub put_ports-requires-clause-whole : goal.put_ports-requires-clause-whole
-put_ports-requires-clause-whole c =
-    let es = entries_of c.args.explained.now in
-    let told = c.requires.explained.story.told in
-    ap (told_by (length es)) told ∙ told_by-all c.args.explained.now.journal.now.head es (length es) (omega arith) ∙ sym told
 
 pub returns : goal.returns
 returns c =
@@ -27,8 +20,7 @@ returns c =
       c.deref-3.ensures.value,
       waits,
       c.in_ok-put_waits.ensures,
-      c.in_ok-put_ports.ensures,
-      c.new-rest.ensures.items,
+      c.requires.ports,
       c.in_ok-put_steps.ensures.text,
       c.in_ok-push.ensures,
     )

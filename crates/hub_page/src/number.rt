@@ -2,7 +2,7 @@
 
 ghost use Rattle.std.specs.Prelude.{◌≡◌, ◌++◌, decimal, OnOk};
 
-use itoa::Buffer;
+use hub_text::write_number;
 use std::alloc::AllocError;
 
 /// Appends a number behind these words.
@@ -10,6 +10,5 @@ pub(crate) fn put_number(out: &mut Vec<u8>, words: &[u8], number: u64) -> Result
     ensures { OnOk result (out.new.items ≡ out.old.items ++ words.now ++ decimal number) }
 {
     out.extend_from_slice(words)?;
-    let mut buffer = Buffer::new();
-    out.extend_from_slice(buffer.format(number).as_bytes())
+    write_number(out, number)
 }

@@ -12,8 +12,7 @@ use crate::label::{Label, end_class};
 use crate::pen::{Pen, put_each};
 use hub_base::{Case, Edition, Entry, Event, NoMemory, Port, Value, What};
 use hub_story::Told;
-use hub_text::{write_entry, write_event};
-use itoa::Buffer;
+use hub_text::{write_entry, write_event, write_number};
 use std::alloc::AllocError;
 
 /// How many colours there are, and marks.
@@ -55,21 +54,13 @@ pub(crate) fn put(out: &mut Vec<u8>, bytes: &[u8]) -> Result<(), AllocError>
     out.extend_from_slice(bytes)
 }
 
-/// Appends a number.
-fn put_number(out: &mut Vec<u8>, number: u64) -> Result<(), AllocError>
-    ensures { Appends out.old out.new (decimal number) result }
-{
-    let mut buffer = Buffer::new();
-    put(out, buffer.format(number).as_bytes())
-}
-
 /// Appends a word, and the number behind it, if there is one.
 fn put_word(out: &mut Vec<u8>, word: &[u8], number: Option<u64>) -> Result<(), AllocError>
     ensures { Appends out.old out.new (word.now ++ behind_text number) result }
 {
     put(out, word)?;
     match number {
-        Some(number) => put_number(out, number),
+        Some(number) => write_number(out, number),
         None => Ok(()),
     }
 }
@@ -215,7 +206,7 @@ impl Pen<Piece<'_>> for Pieces {
     fn put(&self, out: &mut Vec<u8>, piece: &Piece<'_>) -> Result<(), AllocError> {
         match piece {
             Piece::Word(bytes) => put(out, bytes),
-            Piece::Number(number) => put_number(out, *number),
+            Piece::Number(number) => write_number(out, *number),
             Piece::Line(entry) => put_entry(out, entry),
             Piece::Tells(event) => put_event(out, event),
             Piece::End(ended) => put_end(out, *ended),

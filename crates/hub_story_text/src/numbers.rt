@@ -2,20 +2,8 @@
 
 ghost use Rattle.std.specs.Prelude.{◌≡◌, ◌+◌, ◌++◌, decimal, OnOk};
 
-use itoa::Buffer;
+use hub_text::write_number;
 use std::alloc::AllocError;
-
-/// Appends a number. Those of processes and ports have mostly one digit.
-#[tactic(auto, using(std::proofs::lemmas::Fmt::decimal_digit))]
-fn put_digits(out: &mut Vec<u8>, number: u64) -> Result<(), AllocError>
-    ensures { OnOk result (out.new.items ≡ out.old.items ++ decimal number) }
-{
-    if number < 10 {
-        return Ok(out.push(b'0' + number as u8)?);
-    }
-    let mut buffer = Buffer::new();
-    out.extend_from_slice(buffer.format(number).as_bytes())
-}
 
 /// Appends a number behind these words, which become a store or two where they are known.
 #[inline(always)]
@@ -23,7 +11,7 @@ pub(crate) fn put_number(out: &mut Vec<u8>, words: &[u8], number: u64) -> Result
     ensures { OnOk result (out.new.items ≡ out.old.items ++ words.now ++ decimal number) }
 {
     out.extend_from_slice(words)?;
-    put_digits(out, number)
+    write_number(out, number)
 }
 
 /// The number of the step at this place, as it is printed.

@@ -27,5 +27,5 @@ pub use selects::read_case;
 pub use steps::same_text;
 pub use values::read_value;
 pub use writer::{
-    undo_if_refused, write_entry, write_event, write_head, write_journal, write_value,
+    undo_if_refused, write_entry, write_event, write_head, write_journal, write_number, write_value,
 };

@@ -13,7 +13,7 @@ ghost use Rattle.hub_base.specs.Text.{Fits};
 ghost use Rattle.hub_base.specs.Value.{value_field};
 
 use crate::entry_fields::{MOST_NUMBER, MOST_SEND, MOST_WORD, put_number, put_send};
-use crate::event_lines::{MOST_VALUE, put_event, put_value};
+use crate::event_lines::{MOST_DIGITS, MOST_VALUE, put_event, put_large, put_value};
 use crate::limits::MOST_LINE;
 use hub_base::{
     Case, Edition, Entry, EntryRef, Event, Head, Journal, MOST_PROCS, NoMemory, Port, Step,
@@ -122,6 +122,23 @@ pub fn write_value(out: &mut Vec<u8>, value: &Value) -> Result<(), NoMemory>
     let end = put_value(&mut spelled, 0, value);
     put(out, &spelled[..end])?;
     Ok(())
+}
+
+/// Appends a number as a journal spells it; `Err` where a growth was refused, with nothing appended. Those of processes and
+/// ports have mostly one digit.
+#[tactic(auto, using(std::proofs::lemmas::Fmt::decimal_digit))]
+pub fn write_number(out: &mut Vec<u8>, number: u64) -> Result<(), AllocError>
+    ensures ok { OnOk result (out.new.items ≡ out.old.items ++ decimal number) }
+    ensures err { OnErr result (out.new.items ≡ out.old.items) }
+    ensures capacity { vec_capacity out.old ≤ vec_capacity out.new }
+    ensures succeeds { HasRoomFor out.old (decimal number) → IsOk result }
+{
+    if number < 10 {
+        return put(out, &[b'0' + number as u8]);
+    }
+    let mut digits = [0; MOST_DIGITS];
+    let end = put_large(&mut digits, 0, number);
+    put(out, &digits[..end])
 }
 
 /// Appends a case of a select, behind a space.

@@ -7,7 +7,7 @@ ghost use Rattle.hub_base.specs.Lines.{line};
 ghost use Rattle.hub_trace.specs.Pieces.{asked_words, piece_text, told_words};
 
 use hub_base::{Edition, EntryRef, Event, NoMemory, Pid, Value, What};
-use hub_text::{write_entry, write_event, write_value};
+use hub_text::{write_entry, write_event, write_number, write_value};
 use itoa::Buffer;
 use std::alloc::Global;
 
@@ -31,14 +31,6 @@ pub(crate) fn number_of(place: u32) -> u64
     ensures { result ≡ place + 1 }
 {
     u64::from(place) + 1
-}
-
-/// Appends a number.
-fn put_number(out: &mut Vec<u8>, number: u64) -> Result<(), NoMemory>
-    ensures { OnOk result (out.new.items ≡ out.old.items ++ decimal number) }
-{
-    let mut buffer = Buffer::new();
-    Ok(out.extend_from_slice(buffer.format(number).as_bytes())?)
 }
 
 /// How many bytes the number has.
@@ -96,7 +88,7 @@ fn put_piece(out: &mut Vec<u8>, piece: &Piece<'_>) -> Result<(), NoMemory>
 {
     match piece {
         Piece::Word(bytes) => Ok(out.extend_from_slice(bytes)?),
-        Piece::Number(number) => put_number(out, *number),
+        Piece::Number(number) => Ok(write_number(out, *number)?),
         Piece::Asks(entry) => put_asked(out, entry),
         Piece::Tells(what) => put_told(out, *what),
         Piece::Carries(value) => write_value(out, value),

@@ -1,11 +1,11 @@
 //! A journal whose entries are kept short, and how it is read and written.
 
-ghost use Rattle.std.specs.Prelude.{◌≡◌, ◌≤◌, ◌++◌, ℕ, List, IfOk, IfErr, IsOk, OnOk, OnErr};
+ghost use Rattle.std.specs.Prelude.{◌≡◌, ◌≤◌, ◌++◌, ℕ, List, IfOk, IfErr, IsErrOf, IsOk, OnOk, OnErr};
 ghost use Rattle.std.specs.List.{flat_map};
 ghost use Rattle.std.specs.Vec.{vec_capacity};
 ghost use Rattle.hub_base.specs.Head.{AreOf, IsHead};
 ghost use Rattle.hub_base.specs.Lines.{line};
-ghost use Rattle.hub_base.specs.Reading.{read_text, text};
+ghost use Rattle.hub_base.specs.Reading.{HasEntry, read_text, text};
 ghost use Rattle.hub_base.specs.Text.{IsText};
 ghost use Rattle.hub_text.specs.ReadJournal.{Gives, IsFaultOf};
 ghost use Rattle.hub_text.specs.Writing.{HasRoomFor};
@@ -66,7 +66,8 @@ impl ShortJournal {
 
 /// The journal of the entries that are left.
 fn collect_entries(alloc: Global, mut reader: Reader) -> Result<ShortJournal, ReadFault>
-    ensures { Gives result reader.entry.left }
+    ensures gives { Gives result reader.entry.left }
+    ensures memory { IsErrOf result ReadFault.NoMemory → HasEntry reader.entry.left }
 {
     let mut list = ShortEntries::new(alloc);
     let mut entry = Entry::blank();
@@ -88,7 +89,8 @@ fn collect_entries(alloc: Global, mut reader: Reader) -> Result<ShortJournal, Re
 
 /// The journal that the text says.
 fn read_all(alloc: Global, bytes: &[u8]) -> Result<ShortJournal, ReadFault>
-    ensures { Gives result (read_text bytes.now) }
+    ensures gives { Gives result (read_text bytes.now) }
+    ensures memory { IsErrOf result ReadFault.NoMemory → HasEntry (read_text bytes.now) }
 {
     match Reader::open(bytes) {
         Ok(reader) => collect_entries(alloc, reader),
@@ -107,6 +109,8 @@ pub fn read_short_journal(alloc: Global, bytes: &[u8]) -> Result<ShortJournal, R
     ensures faulty { IfErr result (λ f. IsFaultOf bytes.now f) }
     // What is answered is computed so.
     ensures exact { Gives result (read_text bytes.now) }
+    // No memory is asked for before the first entry.
+    ensures memory { IsErrOf result ReadFault.NoMemory → HasEntry (read_text bytes.now) }
 {
     read_all(alloc, bytes)
 }

@@ -179,7 +179,7 @@ def beginnings(_):
 
 
 def longest_journals(folder):
-    """Journals of the most bytes and of the most steps, and of one more: replayed, and compared with events."""
+    """Journals of the most bytes, lines and steps, and of one more: replayed, and compared with events."""
     most_bytes, most_steps = 67108864, 1000000
 
     # Port 9 is not made, so each call is fault 5.
@@ -204,6 +204,12 @@ def longest_journals(folder):
         fault = refused('line %d: too long' % place)
         yield name, run(['replay'], longer.encode()) == compare(folder, longer, events) == fault
         yield name + ', without events', compare(folder, longer, '') == fault
+
+    # An exit is the shortest line.
+    exits = (most_bytes - len(head)) // len('0 exit\n')
+    journal = head + exits * '0 exit\n'
+    events = '0 done\n' + (exits - 1) * '0 fault 2\n'
+    yield 'most lines', (exits, compare(folder, journal, events)) == (9586976, (0, b'same\n', b''))
 
     # Exits are not counted, and the second is fault 2.
     journal = head + most_steps * '0 make 1025\n'
@@ -248,8 +254,14 @@ def scenarios(_):
             yield 'step ' + value, run(['run'], text.encode()) == refused(group['fault'])
 
 
-def long_scenarios(_):
-    """Scenarios up to each limit, and one past it."""
+def run_both(folder, text):
+    """What `run` answers for a scenario on standard input, and in a file."""
+    write(folder, 'scenario', text)
+    return [run(['run'], text.encode()), run(['run', 'scenario'], b'', folder=folder)]
+
+
+def long_scenarios(folder):
+    """Scenarios up to each limit, and one past it, on standard input and in a file."""
 
     def ports(times):
         return 'ports = [%s]\nprocess = [{steps = []}]\n' % ('0,' * times)
@@ -279,7 +291,7 @@ def long_scenarios(_):
         'longest_file': (comment(1048576), ''),
     }
     for name, (text, report) in rows.items():
-        yield name, run(['run'], text.encode()) == (0, report.encode(), b'')
+        yield name, run_both(folder, text) == 2 * [(0, report.encode(), b'')]
     rows = {
         'one_port_more': (ports(65), 'bad ports'),
         'no_process': (processes(0), 'bad processes'),
@@ -289,7 +301,7 @@ def long_scenarios(_):
         'one_byte_more_is_no_toml': ('=' * 1048577, 'too long'),
     }
     for name, (text, fault) in rows.items():
-        yield name, run(['run'], text.encode()) == refused('scenario: ' + fault)
+        yield name, run_both(folder, text) == 2 * [refused('scenario: ' + fault)]
 
 
 def one_port(capacity):

@@ -29,8 +29,9 @@ const STORIES: &[Row] = &[
     ("pass", 100, (2, 100), MAKE, Crew::Pass, Some(3)),
     // Both wait for ever, and the step of the second tells both.
     ("stall", 100, (2, 100), &[], Crew::Stall, Some(2)),
-    // All four wait for ever, and the step of the last tells all: one step wakes three threads.
+    // All wait for ever, and the step of the last tells all: one step wakes each other thread.
     ("stall_of_four", 100, (4, 100), &[], Crew::Stall, Some(4)),
+    ("stall_of_all", 1, (64, 100), &[], Crew::Stall, Some(64)),
     // Three wait, mostly, and one close wakes them.
     (
         "close_on_all",

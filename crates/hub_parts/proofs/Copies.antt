@@ -53,7 +53,8 @@ queue-places c cs i x s k at =
     let here : channel_of cs port ≡ x = ap (λ n. slice_index_or cs n no_channel) less ∙ get_or_from_slice_get cs i x no_channel at in
     ap (λ (y : ChannelLists). (queue_of s y).capacity) (sym here) ∙ (k.queues s port (omega arith) (omega (arith, below))).places
 
-cap-there : (cs ds : List ChannelLists) (i : ℕ) (x y : ChannelLists) → map (λ (p : PortLists). p.cap) (map (λ (ch : ChannelLists). ch.lists) cs)
+-- channels of the same capacities, in order
+pub cap-there : (cs ds : List ChannelLists) (i : ℕ) (x y : ChannelLists) → map (λ (p : PortLists). p.cap) (map (λ (ch : ChannelLists). ch.lists) cs)
     ≡ map (λ (p : PortLists). p.cap) (map (λ (ch : ChannelLists). ch.lists) ds)
     → slice_get cs i ≡ Some x → slice_get ds i ≡ Some y → x.lists.cap ≡ y.lists.cap
 cap-there [] ds i x y same here there = absurd (none-some x here)

@@ -6,7 +6,7 @@
 //! places for each process, and no process has more than one open call, of at most `CASE_PLACES` cases: so the
 //! live entries leave room for one call more.
 
-ghost use Rattle.std.specs.Prelude.{◌≡◌, ◌≤◌, ◌<◌, ◌+◌, ◌*◌, [], length, IfOk, IfSome, OnErr, ◌==◌, true, false, slice_get, is_some};
+ghost use Rattle.std.specs.Prelude.{◌≡◌, ◌≤◌, ◌<◌, ◌+◌, ◌*◌, [], length, IfOk, IfSome, OnErr, IsTrue, ◌↔◌, ◌==◌, true, false, slice_get, is_some};
 ghost use Rattle.std.specs.Option.{option_map};
 ghost use Rattle.std.specs.List.{list_any};
 ghost use Rattle.hub_base.specs.Ready.{first_with, is_on};
@@ -60,7 +60,7 @@ fn copy_channels(alloc: Global, channels: &[Channel]) -> Result<Vec<Channel>, Al
 
 /// Whether these channels have the capacities of those, in order.
 fn have_caps_of(channels: &[Channel], others: &[Channel]) -> bool
-    ensures { result ≡ true → caps_of channels.now ≡ caps_of others.now }
+    ensures { IsTrue result ↔ (caps_of channels.now ≡ caps_of others.now) }
 {
     if channels.len() != others.len() {
         return false;
@@ -106,7 +106,7 @@ impl Board {
 
     /// Whether it has as many processes as another, and ports of the same capacities.
     pub fn has_shape_of(&self, other: &Board) -> bool
-        ensures { result ≡ true → IsShapeOf self.now other.now }
+        ensures { IsTrue result ↔ IsShapeOf self.now other.now }
     {
         self.calls.procs() == other.calls.procs() && have_caps_of(&self.ports, &other.ports)
     }

@@ -268,14 +268,16 @@ def refused_allocations(program, work):
 
 
 def longest_journals(program, _):
-    """A journal has at most 1,000,000 entries that are no exits. Each is told within a minute."""
+    """A journal has at most 1,000,000 entries that are no exits, and two of these have. Each is told within a minute."""
     head = "chanhub journal 1\nprocs 1\n"
     makes = head + "0 make 1025\n" * 1000000 + "0 exit\n"
     values = range((1000000 - 64) // 2)
     passing = "".join(f"0 send {value % 64 + 1} {value}\n0 recv {value % 64 + 1}\n" for value in values)
     passing = head + "0 make 1\n" * 64 + passing + "0 exit\n"
-    for name, journal in (("makes", makes), ("passing of values", passing)):
-        yield f"the longest journal of {name}", program.tells(journal, Story(journal), None)
+    # More of them than 16 bits count.
+    selects = head + "0 make 1\n" + "".join(f"0 select 0 s1:{value} r1\n" for value in range(70000))
+    for name, journal in (("makes", makes), ("passing of values", passing), ("selects", selects)):
+        yield f"a long journal of {name}", program.tells(journal, Story(journal), None)
     yield "one entry more", program.run(["story"], (makes + "0 make 1025\n").encode()) == refused("line 1000004: too long")
 
 

@@ -1,17 +1,19 @@
 //! What is kept of an entry in 16 bytes, and how it is written out.
 
-ghost use Rattle.std.specs.Prelude.{◌≡◌, ◌≤◌, ◌+◌, ◌++◌, ◌∷◌, [], false, IfSome, drop, length, slice_get, take, vec_len};
+ghost use Rattle.std.specs.Prelude.{◌≡◌, ◌≤◌, ◌<◌, ◌+◌, ◌^◌, ◌++◌, ◌∷◌, [], false, IfSome, IsOk, OnErr, OnOk, drop, length, slice_get, take, vec_len};
 ghost use Rattle.std.specs.Vec.{vec_capacity};
 ghost use Rattle.hub_base.specs.declared.limits.TheConstants.{CASE_PLACES};
 ghost use Rattle.hub_base.specs.Lines.{by, call};
 ghost use Rattle.hub_base.specs.Values.{cases_at};
 ghost use Rattle.hub_laws.specs.Once.{is_call};
+ghost use Rattle.hub_core.specs.CaseListView.{HasCaseRoom};
 ghost use Rattle.hub_core.specs.LogView.{AreBriefs, IsBriefOf, IsWhole, StandFrom};
 ghost use Rattle.hub_core.specs.LogView.{case_count, cases_beside, cases_of, entry_of, first_of, own_of, written};
 
 use crate::CaseRoom;
 use crate::case_list::CaseList;
 use hub_base::{Case, CaseSlice, Entry, EntryRef, Pid, Port, Step, Value};
+use std::alloc::AllocError;
 
 /// An entry without a list of cases.
 ///
@@ -115,7 +117,7 @@ fn brief_of_call(pid: Pid, cases: &[Case], default: bool, word: u64, first: u32)
 }
 
 /// What is kept of an entry whose cases, where they are not kept with it, begin there.
-pub(crate) fn brief_of(entry: &EntryRef<'_>, first: u32) -> Brief
+fn brief_of(entry: &EntryRef<'_>, first: u32) -> Brief
     ensures { IsBriefOf entry.now first result }
 {
     let pid = entry.pid;
@@ -133,7 +135,7 @@ pub(crate) fn brief_of(entry: &EntryRef<'_>, first: u32) -> Brief
 }
 
 /// The cases of the entry that are not kept with this, which is kept of it.
-pub(crate) fn cases_beside<'a>(entry: &EntryRef<'a>, brief: Brief) -> &'a [Case]
+fn cases_beside<'a>(entry: &EntryRef<'a>, brief: Brief) -> &'a [Case]
     ensures cases { result.now ≡ cases_beside entry.now brief }
     ensures few { length result.now ≤ CASE_PLACES }
 {
@@ -141,6 +143,36 @@ pub(crate) fn cases_beside<'a>(entry: &EntryRef<'a>, brief: Brief) -> &'a [Case]
         Brief::Call { .. } => entry.step.cases(),
         _ => &[],
     }
+}
+
+/// Keeps an entry, for which there is a place, and its cases, where they are not kept with it. An `Err` is memory, or 2^32 cases
+/// that stand there.
+#[inline(always)]
+pub(crate) fn keep(
+    briefs: &mut Vec<Brief>,
+    cases: &mut CaseList,
+    entry: &EntryRef<'_>,
+) -> Result<(), AllocError>
+    requires briefs { AreBriefs briefs.old.items cases.old.items }
+    requires begin { StandFrom 0 briefs.old.items }
+    requires place { vec_len briefs.old < vec_capacity briefs.old }
+    ensures briefs { AreBriefs briefs.new.items cases.new.items }
+    ensures begin { StandFrom 0 briefs.new.items }
+    ensures ok { OnOk result (written briefs.new.items cases.new.items
+        ≡ written briefs.old.items cases.old.items ++ entry.now ∷ []) }
+    ensures one_more { OnOk result (length briefs.new.items ≡ length briefs.old.items + 1) }
+    ensures err { OnErr result (
+        (briefs.new.items ≡ briefs.old.items) × (cases.new.items ≡ cases.old.items)) }
+    ensures succeeds { length cases.old.items < 2 ^ 32
+        → HasCaseRoom cases.old (length (cases_of entry.now)) → IsOk result }
+{
+    let Ok(first) = u32::try_from(cases.len()) else {
+        return Err(AllocError);
+    };
+    let brief = brief_of(entry, first);
+    cases.append(cases_beside(entry, brief))?;
+    briefs.push_reserved(brief);
+    Ok(())
 }
 
 /// A call of this case alone, which is put in the room for it.

@@ -10,7 +10,7 @@ ghost use Rattle.std.specs.Vec.{vec_capacity};
 ghost use Rattle.hub_core.specs.LogView.{FitsShort, HasRoomFor, places_asked};
 
 use crate::CaseRoom;
-use crate::brief::{Brief, brief_of, brief_of_plain, cases_beside, short_at, write_out};
+use crate::brief::{Brief, brief_of_plain, keep, short_at, write_out};
 use crate::case_list::CaseList;
 use crate::copies::{copy_list, copy_list_over};
 use crate::short_entries::{ShortEntries, shortened};
@@ -274,17 +274,12 @@ impl Log {
         ensures short { result ≡ true → self.new.short ≡ self.old.short + 1 }
         ensures had_room { FitsShort self.old entry.now → result ≡ true }
     {
-        let Ok(first) = u32::try_from(self.cases.len()) else {
-            return false;
-        };
         if !has_room(&mut self.briefs, entry) {
             return false;
         }
-        let brief = brief_of(entry, first);
-        let Ok(()) = self.cases.append(cases_beside(entry, brief)) else {
+        let Ok(()) = keep(&mut self.briefs, &mut self.cases, entry) else {
             return false;
         };
-        self.briefs.push_reserved(brief);
         true
     }
 

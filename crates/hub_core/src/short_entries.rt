@@ -7,7 +7,7 @@ ghost use Rattle.hub_laws.specs.Once.{is_call};
 ghost use Rattle.hub_core.specs.LogView.{AreBriefs, StandFrom, written};
 
 use crate::CaseRoom;
-use crate::brief::{Brief, brief_of, cases_beside, short_at, short_case, write_out};
+use crate::brief::{Brief, keep, short_at, short_case, write_out};
 use crate::case_list::CaseList;
 use hub_base::{Case, Entry, EntryRef, Pid};
 use std::alloc::{AllocError, Global};
@@ -59,14 +59,8 @@ impl ShortEntries {
     pub fn push(&mut self, entry: &EntryRef<'_>) -> Result<(), AllocError>
         ensures { OnOk result (self.new ≡ self.old ++ entry.now ∷ []) }
     {
-        let Ok(first) = u32::try_from(self.cases.len()) else {
-            return Err(AllocError);
-        };
         self.briefs.reserve(1)?;
-        let brief = brief_of(entry, first);
-        self.cases.append(cases_beside(entry, brief))?;
-        self.briefs.push_reserved(brief);
-        Ok(())
+        keep(&mut self.briefs, &mut self.cases, entry)
     }
 
     /// How many there are.

@@ -2,7 +2,8 @@
 //!
 //! The journal holds the admitted entries, and the machine is what they lead to. It has room for the
 //! exit of each process from the opening on, and for the steps that were reserved; so neither an
-//! exit nor a reserved step asks for memory.
+//! exit nor a reserved step is refused memory. In a `Hub` neither asks for it; a `ShortHub` may ask for room for
+//! what it keeps of a step, and writes its entries out where that is refused.
 
 ghost use Rattle.std.specs.Prelude.{◌≡◌, ◌≤◌, ◌<◌, ◌+◌, IfOk, IfErr, IsOk, OnOk, OnErr, length, max, slice_get};
 ghost use Rattle.std.specs.Option.{option_map};
@@ -29,7 +30,7 @@ use std::marker::{Model, PhantomData};
 pub struct HubOf<F: Form> {
     /// What it was opened with.
     pub(crate) terms: Terms,
-    /// How many steps other than makes take no memory.
+    /// How many steps other than makes are not refused memory.
     pub(crate) places: u32,
     /// How many entries of the journal are no exits.
     pub(crate) count: u32,
@@ -127,8 +128,8 @@ impl<F: Form> HubOf<F> {
         Ok(())
     }
 
-    /// Makes room in the journal: after `Ok` the next `k` steps other than makes take no memory. After
-    /// a refusal the hub is as before.
+    /// Makes room in the journal: after `Ok` the next `k` steps other than makes are not refused memory,
+    /// and in a `Hub` take none. After a refusal the hub is as before.
     pub fn reserve(&mut self, k: u32) -> Result<(), NoMemory>
         ensures ok { OnOk result (
             self.new.memory.hub ≡ record self.old.memory.hub { places = max self.old.memory.hub.places k }) }
@@ -188,7 +189,7 @@ impl<F: Form> HubOf<F> {
         self.terms
     }
 
-    /// How many steps other than makes take no memory.
+    /// How many steps other than makes are not refused memory; in a `Hub` they take none.
     pub fn places(&self) -> u32
         ensures { result ≡ self.now.memory.hub.places }
     {

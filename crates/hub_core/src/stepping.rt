@@ -21,7 +21,7 @@ fn count_after(step: &StepRef<'_>, count: u32) -> u32
     if step.is_exit() { count } else { count + 1 }
 }
 
-/// How many steps other than makes take no memory after this one.
+/// How many steps other than makes are not refused memory after this one.
 fn places_after(step: &StepRef<'_>, places: u32) -> u32
     ensures { result ≡ places_after step.now places }
 {

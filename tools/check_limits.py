@@ -1,11 +1,12 @@
 #!/usr/bin/env python3
-"""Looks for limits that are written as numbers.
+"""Looks for limits that are written as numbers, and for sizes that are told wrong.
 
     check_limits.py [ROOT]
 
 The limits of hubs, texts and scenarios stand in the files limits.rt of the crates, and all others name them. Tells each
 line of sources, definitions and proofs that has one of these numbers, comments included; tests and worked rows may, and
-so may widths of machine words. The status is 1 where any is told.
+so may widths of machine words. Sources prove how many bytes a type takes (`size_of`), and what pages and comments say of
+it is compared with that. The status is 1 where any is told.
 """
 import glob
 import os
@@ -19,6 +20,15 @@ LIMIT = re.compile(r'(?<![\w.])(?:%s)(?![\w])' % '|'.join(NUMBERS))
 TEXT = re.compile(r'"(?:[^"\\]|\\.)*"')
 WIDTH = re.compile(r'2 ?\^ ?6[34]|1 << 63|\b64[- ]bits?\b|digits_onto 64')
 VIEWER = os.path.join('src', 'viewer', '')  # files of the folder viewer as constants
+SIZE = re.compile(r'prove!\(size_of::<(\w+)>\(\) == (\d+)\)')
+TOLD = {  # how a size is told, by the type
+    'Entry': re.compile(r'\b(?:[Ee]ntry`? takes|new one is|entries of) (?:some )?(\d+)'),
+    'Brief': re.compile(r'(?:step|receive) takes (\d+) bytes|(\d+) bytes for (?:most|each) entr'),
+    'ShortCase': re.compile(r'(\d+) more for each (?:of its )?case|case of a select takes (\d+)'),
+    'Value': re.compile(r'(\d+) more for (?:each value of )?bytes'),
+}
+PAGES = ('README.md', 'docs/*.md', 'benches/README.md', 'crates/*/README.md', 'crates/*/src/**/*.rt',
+         'capi/chanhub.h', 'capi/python/chanhub.py', 'capi/rust/src/lib.rs')
 TEST_CRATES = ('hub_live_tests', 'hub_tests', 'hub_trials')
 
 
@@ -36,6 +46,23 @@ def bare(line):
     return LIMIT.search(line)
 
 
+def text_of(path):
+    """The text of a file, its lines and those of its comments joined."""
+    with open(path) as file:
+        return re.sub(r'\s*\n[\s/*!#]*', ' ', file.read())
+
+
+def wrong_sizes():
+    """What pages and comments say of a size that is another."""
+    texts = {path: text_of(path) for page in PAGES for path in sorted(glob.glob(os.path.join(ROOT, page), recursive=True))}
+    sizes = dict(found for text in texts.values() for found in SIZE.findall(text))
+    for path, text in texts.items():
+        for name, told in TOLD.items():
+            for said in told.finditer(text):
+                if said[said.lastindex] != sizes[name]:
+                    yield '%s: %s, and not %s' % (os.path.relpath(path, ROOT), said[0], sizes[name])
+
+
 def main():
     crates = os.path.join(ROOT, 'crates')
     found = []
@@ -47,8 +74,10 @@ def main():
             with open(path) as file:
                 found += ['%s:%d: %s' % (name, number, bare(line).group())
                           for number, line in enumerate(file, 1) if bare(line)]
+    wrong = list(wrong_sizes())
     print(''.join('a limit as a number: crates/%s\n' % line for line in found), end='')
-    sys.exit(1 if found else 0)
+    print(''.join('a wrong size: %s\n' % line for line in wrong), end='')
+    sys.exit(1 if found or wrong else 0)
 
 
 if __name__ == '__main__':

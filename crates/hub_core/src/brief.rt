@@ -14,6 +14,7 @@ use crate::CaseRoom;
 use crate::case_list::CaseList;
 use hub_base::{Case, CaseSlice, Entry, EntryRef, Pid, Port, Step, Value};
 use std::alloc::AllocError;
+use std::mem::size_of;
 
 /// An entry without a list of cases.
 ///
@@ -58,6 +59,10 @@ pub(crate) enum Brief {
         other: Pid,
     },
 }
+
+const _: () = prove!(size_of::<Brief>() == 16);
+
+const _: () = prove!(size_of::<Entry>() == 648);
 
 /// What is kept of a call with this case alone, no default and word 0, where that is all of it.
 fn brief_of_one(pid: Pid, case: Case) -> Option<Brief>

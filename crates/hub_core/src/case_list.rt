@@ -10,6 +10,7 @@ use crate::copies::{copy_list, copy_list_over};
 use hub_base::{Case, Port, Value};
 use std::alloc::{AllocError, Global};
 use std::marker::Model;
+use std::mem::size_of;
 
 /// What is kept of a case.
 #[derive(Clone, Copy)]
@@ -28,6 +29,10 @@ enum ShortCase {
         place: usize,
     },
 }
+
+const _: () = prove!(size_of::<ShortCase>() == 16);
+
+const _: () = prove!(size_of::<Value>() == 33);
 
 /// Cases in order, each in 16 bytes: bytes that are sent stand beside.
 #[derive(Drop)]

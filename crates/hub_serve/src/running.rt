@@ -14,7 +14,7 @@ use hub_core::Machine;
 use hub_text::EventText;
 use std::alloc::Global;
 
-/// A machine that stands where the entries so far have led. An entry takes some 600 bytes, so each is read into
+/// A machine that stands where the entries so far have led. An entry takes 648 bytes, so each is read into
 /// the same place.
 #[derive(Drop)]
 pub(crate) struct Running {

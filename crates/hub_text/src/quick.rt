@@ -365,7 +365,7 @@ fn select_into(edition: Edition, bytes: &[u8], start: usize, step: &mut Step) ->
     requires start { start < length bytes.now }
     ensures { IfSome result (λ end. SelectStands edition bytes.now start step.new end) }
 {
-    // A call that stands there already keeps its place, since a new one is some 650 bytes.
+    // A call that stands there already keeps its place, since a new one is 648 bytes.
     if !matches!(step, Step::Call { .. }) {
         set_empty_call(step);
     }

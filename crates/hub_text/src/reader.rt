@@ -169,7 +169,7 @@ impl<'a> Reader<'a> {
     /// at a fault the reader stays where it is, so that each further call answers the same, and the
     /// entry may be any.
     ///
-    /// An entry takes some 650 bytes, so a loop over a long text reads them all into one.
+    /// An entry takes 648 bytes, so a loop over a long text reads them all into one.
     #[inline(always)]
     pub fn read_into(&mut self, entry: &mut hub_base::Entry) -> Result<bool, TextFault>
         ensures reads { FillsOn self.old self.new entry.new result }

@@ -73,7 +73,7 @@ pub fn recv_of(port: &[u8]) -> Result<Case, Kind>
 pub fn set_call(step: &mut Step, case: Case)
     ensures { step.new ≡ call (case ∷ []) false 0 }
 {
-    // A call that stands there already is changed in place, since a new one is some 650 bytes.
+    // A call that stands there already is changed in place, since a new one is 648 bytes.
     if !matches!(step, Step::Call { .. }) {
         set_empty_call(step);
     }

@@ -1,10 +1,14 @@
 -- What a hub that follows keeps, and how it makes the next step of the journal.
-use Rattle.std.proofs.Common.{◌≡◌, ◌∙◌, ◌+◌, ◌≤◌, ◌<◌, ℕ, Bool, List, [], ◌∷◌, ◌++◌, Option, Some, None, refl, ap, sym, subst, arith}
+use Rattle.std.proofs.Common.{◌≡◌, ◌∙◌, ◌+◌, ◌≤◌, ◌<◌, ℕ, Bool, true, List, [], ◌∷◌, ◌++◌, Option, Some, None, refl, ap, sym, subst, arith}
 use Rattle.std.proofs.Common.{length, take, drop, suc, cond, inl, inr, eq-eqb}
 use Rattle.std.specs.Prelude.{slice_get, IfSome, Result, Ok, Err}
 use Rattle.std.proofs.lemmas.List.{length_push}
 use Rattle.std.proofs.lemmas.Option.{slice_get_within}
-use Rattle.hub_base.specs.Entry.{Entry}
+use Rattle.hub_base.specs.Entry.{Entry, Step}
+use Rattle.hub_base.specs.declared.entry.Step.TheVariants.{Make, Call, Close, Exit, Cancel}
+use Rattle.hub_base.specs.declared.head.Edition.{Edition}
+use Rattle.hub_base.specs.declared.value.Pid.{Pid}
+use Rattle.hub_base.specs.Head.{is_of}
 use Rattle.hub_base.specs.declared.event.Event.{Event}
 use Rattle.hub_base.specs.declared.fault.Fault.{Fault}
 use Rattle.hub_base.specs.declared.fault.Fault.TheVariants as fault
@@ -25,16 +29,17 @@ use Rattle.hub_follow.specs.declared.follower.AfterDivergence.TheVariants.{GoesO
 use Rattle.hub_follow.specs.declared.follower.Stand.TheVariants.{Early, Other}
 use Rattle.hub_follow.specs.declared.not_made.NotMade.{NotMade}
 use Rattle.hub_follow.specs.declared.not_made.NotMade.TheVariants.{Refused, NotYet, Diverged}
-use Rattle.hub_follow.specs.Follow.{AnswersNext, FollowKeeps, FollowView, FollowsStep, IsAdmitted, IsAt, IsBeginning, IsFree, IsNext, diverged_at, made}
-use Rattle.hub_follow.specs.Follow.{FollowsAnew, follow_view, number_of, turn_of, with_locked}
-use Rattle.hub_follow.specs.Stands.{Passes, Stands, is_of}
+use Rattle.hub_follow.specs.Follow.{FollowKeeps, FollowView, FollowsStep, IsAdmitted, IsAt, IsBeginning, IsDue, IsFree, IsNext, diverged_at, made}
+use Rattle.hub_follow.specs.Follow.{FollowsAnew, follow_view, number_of, step_with, turn_of, with_locked, with_word}
+use Rattle.hub_follow.specs.Stands.{Passes, Stands}
+use Rattle.hub_follow.specs.Stands.{is_of as is_of_pid}
 use Rattle.hub_follow.proofs.Turns.{turn_here}
 
--- ---- the next step of the journal
+-- ---- the next entry of the journal
 
 -- it is admitted
-pub next_admitted : (l : FollowView) (e : Entry) → FollowKeeps l → IsNext l e → IsAdmitted l e
-next_admitted l e keeps next =
+pub due_admitted : (l : FollowView) (e : Entry) → FollowKeeps l → IsDue l e → IsAdmitted l e
+due_admitted l e keeps next =
     let head = l.locked.hub.terms.head in
     let begins : IsBeginning l = keeps.begins next.following in
     let whole : IsLegal head (take (made l) l.given ++ e ∷ drop (suc (made l)) l.given) =
@@ -43,23 +48,23 @@ next_admitted l e keeps next =
     ∙ (begins-law head (take (made l) l.given) (drop (suc (made l)) l.given)).next e whole
 
 -- its hub is not full
-not_full : (l : FollowView) (e : Entry) → FollowKeeps l → IsNext l e → IsFullFor l.locked.hub e → ⊥
+not_full : (l : FollowView) (e : Entry) → FollowKeeps l → IsDue l e → IsFullFor l.locked.hub e → ⊥
 not_full l e keeps next full =
     let begins : IsBeginning l = keeps.begins next.following in
     let one : one_step e ≡ 1 = ap (λ (b : Bool). cond b 0 1) full.0 in
     omega (arith, one, full.1, keeps.room, ap steps_of begins, steps_there (made l) l.given e next.at)
 
 -- so memory alone refuses it
-pub next_refused : (l : FollowView) (e : Entry) (f : Fault) → FollowKeeps l → IsNext l e → Refuses l.locked.hub e f → f ≡ fault.NoMemory
-next_refused l e fault.JournalFull keeps next refuses = absurd (not_full l e keeps next refuses)
-next_refused l e fault.NoProcess keeps next refuses = absurd (let admitted = next_admitted l e keeps next in let refused = refuses.1 in cc)
-next_refused l e fault.Gone keeps next refuses = absurd (let admitted = next_admitted l e keeps next in let refused = refuses.1 in cc)
-next_refused l e fault.Busy keeps next refuses = absurd (let admitted = next_admitted l e keeps next in let refused = refuses.1 in cc)
-next_refused l e fault.NoMemory keeps next refuses = refl
-next_refused l e other keeps next refuses = absurd refuses
+pub due_refused : (l : FollowView) (e : Entry) (f : Fault) → FollowKeeps l → IsDue l e → Refuses l.locked.hub e f → f ≡ fault.NoMemory
+due_refused l e fault.JournalFull keeps next refuses = absurd (not_full l e keeps next refuses)
+due_refused l e fault.NoProcess keeps next refuses = absurd (let admitted = due_admitted l e keeps next in let refused = refuses.1 in cc)
+due_refused l e fault.Gone keeps next refuses = absurd (let admitted = due_admitted l e keeps next in let refused = refuses.1 in cc)
+due_refused l e fault.Busy keeps next refuses = absurd (let admitted = due_admitted l e keeps next in let refused = refuses.1 in cc)
+due_refused l e fault.NoMemory keeps next refuses = refl
+due_refused l e other keeps next refuses = absurd refuses
 
 -- with it the hub has made a beginning of the journal again
-begins_next : (l : FollowView) (e : Entry) (now : LockedView) → FollowKeeps l → IsNext l e → now.hub ≡ with_entry e l.locked.hub
+begins_next : (l : FollowView) (e : Entry) (now : LockedView) → FollowKeeps l → IsDue l e → now.hub ≡ with_entry e l.locked.hub
     → IsBeginning (with_locked now l)
 begins_next l e now keeps next is =
     let begins : IsBeginning l = keeps.begins next.following in
@@ -68,7 +73,7 @@ begins_next l e now keeps next is =
     longer ∙ ap (λ (es : List Entry). es ++ e ∷ []) begins ∙ sym (take_next l.given (made l) e next.at) ∙ ap (λ n. take n l.given) (sym count)
 
 -- what it keeps
-pub keeps_next : (l : FollowView) (e : Entry) (now : LockedView) (answer : Event) → FollowKeeps l → IsNext l e → Serves l.locked e now answer
+pub keeps_next : (l : FollowView) (e : Entry) (now : LockedView) (answer : Event) → FollowKeeps l → IsDue l e → Serves l.locked e now answer
     → FollowKeeps (with_locked now l)
 keeps_next l e now answer keeps next serves =
     let terms = ap (λ (h : HubView). h.terms) serves.step.journal in
@@ -86,29 +91,60 @@ same l now is = ap (λ n. with_locked n l) is
 still : (l : FollowView) (now : LockedView) → FollowKeeps l → now ≡ l.locked → l.diverged ≡ None → IsBeginning (with_locked now l)
 still l now keeps is none = subst IsBeginning (sym (same l now is)) (keeps.begins none)
 
+-- ---- a step that is the next but for its choice word
+
+-- the word makes no difference to who makes the step,
+pub next_admitted : (l : FollowView) (e : Entry) → FollowKeeps l → IsNext l e → IsAdmitted l e
+next_admitted l e keeps next = due_admitted l (with_word next.0 e) keeps next.1
+
+-- to the edition that has it,
+pub of_edition : (edition : Edition) (word : ℕ) (s : Step) → is_of edition s ≡ true → is_of edition (step_with word s) ≡ true
+of_edition edition word (Make cap) is = is
+of_edition edition word (Call cases default own) is = is
+of_edition edition word (Close p) is = is
+of_edition edition word Exit is = is
+of_edition edition word (Cancel q) is = is
+
+-- and to the memory that it takes
+refused_so : (h : HubView) (pid : Pid) (s : Step) (word : ℕ) (f : Fault) → Refuses h (record { pid = pid; step = step_with word s }) f
+    → Refuses h (record { pid = pid; step = s }) f
+refused_so h pid (Make cap) word f refuses = refuses
+refused_so h pid (Call cases default own) word fault.JournalFull refuses = refuses
+refused_so h pid (Call cases default own) word fault.NoProcess refuses = refuses
+refused_so h pid (Call cases default own) word fault.Gone refuses = refuses
+refused_so h pid (Call cases default own) word fault.Busy refuses = refuses
+refused_so h pid (Call cases default own) word fault.NoMemory refuses = refuses
+refused_so h pid (Call cases default own) word other refuses = refuses
+refused_so h pid (Close p) word f refuses = refuses
+refused_so h pid Exit word f refuses = refuses
+refused_so h pid (Cancel q) word f refuses = refuses
+
 -- the hub made the next step, or refused it
-pub step_next : (l : FollowView) (e : Entry) (now : LockedView) (result : Result Event NotMade) → FollowKeeps l → IsNext l e
-    → Passes l.locked e now result → FollowsStep l e (with_locked now l) result
-step_next l e now (Ok answer) keeps next passes =
+pub step_next : (l : FollowView) (e : Entry) (word : ℕ) (now : LockedView) (result : Result Event NotMade) → FollowKeeps l
+    → IsDue l (with_word word e) → Passes l.locked (with_word word e) now result → FollowsStep l e (with_locked now l) result
+step_next l e word now (Ok answer) keeps due passes =
     let head = l.locked.hub.terms.head in
+    let given = with_word word e in
     record {
-      does = (passes, inl (next, refl));
-      begins = λ none. begins_next l e now keeps next passes.ok.step.journal;
+      does = inl (record { next = (word, due); given = given; due = due; serves = passes; stays = refl });
+      begins = λ none. begins_next l given now keeps due passes.ok.step.journal;
       next = λ _. record {
+        next = given;
+        is_next = due.at;
         ended = passes.ok.ended;
-        told = ap (λ (es : List Entry). (moves (state head es) e).events) (sym (keeps.begins next.following)) ∙ sym passes.ok.step.events;
+        told = ap (λ (es : List Entry). (moves (state head es) given).events) (sym (keeps.begins due.following)) ∙ sym passes.ok.step.events;
       };
     }
-step_next l e now (Err (Refused f)) keeps next passes =
+step_next l e word now (Err (Refused f)) keeps due passes =
     record {
-      does = (inr (inl next), passes.0, same l now passes.1);
+      does = (inr (inl (word, due)), refused_so l.locked.hub e.pid e.step word f passes.0, same l now passes.1);
       begins = still l now keeps passes.1;
-      next = λ _. ap Refused (next_refused l e f keeps next passes.0);
+      next = λ _. ap Refused (due_refused l (with_word word e) f keeps due passes.0);
     }
-step_next l e now (Err other) keeps next passes = absurd passes
+step_next l e word now (Err other) keeps due passes = absurd passes
 
 -- what the hub keeps, with the step or without it
-pub keeps_passed : (l : FollowView) (e : Entry) (now : LockedView) (result : Result Event NotMade) → FollowKeeps l → IsNext l e
+pub keeps_passed : (l : FollowView) (e : Entry) (now : LockedView) (result : Result Event NotMade) → FollowKeeps l → IsDue l e
     → Passes l.locked e now result → FollowKeeps (with_locked now l)
 keeps_passed l e now (Ok answer) keeps next passes = keeps_next l e now answer keeps next passes.ok
 keeps_passed l e now (Err (Refused f)) keeps next passes = subst FollowKeeps (sym (same l now passes.1)) keeps
@@ -137,13 +173,13 @@ keeps_refused l e now (Err other) keeps not passes = absurd passes
 
 -- then no step is next
 not_free : (l : FollowView) (e : Entry) → IsNext l e → IsFree l → ⊥
-not_free l e next free = omega (arith, free next.following, slice_get_within l.given (made l) e next.at)
+not_free l e next free = omega (arith, free next.1.following, slice_get_within l.given (made l) (with_word next.0 e) next.1.at)
 
 pub goes_on : (l : FollowView) (e : Entry) (now : LockedView) (answer : Event) → IsFree l → l.after ≡ GoesOn
     → ServesStep l.locked e now (Ok answer) → FollowsStep l e (diverged_at (number_of l) (with_locked now l)) (Ok answer)
 goes_on l e now answer free after serves =
     record {
-      does = (serves, inr (free, after, refl));
+      does = inr (record { free = free; goes_on = after; serves = serves; stays = refl });
       begins = λ none. absurd (cc);
       next = λ next. absurd (not_free l e next free);
     }
@@ -183,8 +219,8 @@ keeps_goes_on l e now answer keeps serves =
 -- where the next step is this, it is its process's next
 turn_next : (l : FollowView) (e : Entry) → IsNext l e → turn_of l e.pid ≡ Some (made l)
 turn_next l e next =
-    turn_here e.pid (made l) l.given (slice_get_within l.given (made l) e next.at)
-    (ap (is_of e.pid) next.at ∙ eq-eqb e.pid.0 e.pid.0 refl)
+    turn_here e.pid (made l) l.given (slice_get_within l.given (made l) (with_word next.0 e) next.1.at)
+    (ap (is_of_pid e.pid) next.1.at ∙ eq-eqb e.pid.0 e.pid.0 refl)
 
 pub early : (l : FollowView) (e : Entry) → FollowKeeps l → IsAdmitted l e → l.diverged ≡ None → Stands l e Early → FollowsStep l e l (Err NotYet)
 early l e keeps admitted following stands =
@@ -214,7 +250,7 @@ other l e number admitted following stands =
       begins = λ none. absurd (cc);
       next = λ next.
           let here : made l ≡ stands.0 = let turn = turn_next l e next in let at = stands.1 in cc in
-          absurd (stands.2 (ap (slice_get l.given) (sym here) ∙ next.at));
+          absurd (stands.2 (next.0, ap (slice_get l.given) (sym here) ∙ next.1.at));
     }
 
 -- ---- the opening

@@ -3,7 +3,8 @@ use Rattle.std.specs.Prelude.{◌≡◌, ◌≤◌, ◌<◌, ◌+◌, ◌==◌, 
 use Rattle.std.specs.Prelude.{Option, None, Some, IfSome, unwrap_or, Result, Ok, Err}
 use Rattle.std.specs.List.{position_from}
 use Rattle.std.specs.Option.{option_map}
-use Rattle.hub_base.specs.Entry.{Entry}
+use Rattle.hub_base.specs.Entry.{Entry, Step}
+use Rattle.hub_base.specs.declared.entry.Step.TheVariants.{Make, Call, Close, Exit, Cancel}
 use Rattle.hub_base.specs.declared.event.Event.{Event}
 use Rattle.hub_base.specs.declared.fault.Fault.TheVariants as fault
 use Rattle.hub_base.specs.declared.limits.TheConstants.{MOST_BYTES, MOST_STEPS}
@@ -60,9 +61,21 @@ pub record FollowsAnew (text : List ℕ) (after : AfterDivergence) (l : FollowVi
 
 -- ---- whose turn it is
 
--- the journal has this entry at this place, counted from 0
+-- this step, with that choice word in place of its own if it is a call
+abbrev pub step_with : ℕ → Step → Step
+step_with word (Call cases default own) = Call cases default word
+step_with word (Make cap) = Make cap
+step_with word (Close p) = Close p
+step_with word Exit = Exit
+step_with word (Cancel q) = Cancel q
+
+-- this entry, with that choice word in place of its own if it is a call
+abbrev pub with_word : ℕ → Entry → Entry
+with_word word e = record { pid = e.pid; step = step_with word e.step }
+
+-- the journal has this entry at this place, counted from 0, with its own choice word or another
 abbrev pub IsAt : FollowView → Entry → ℕ → Type 0
-IsAt l e place = slice_get l.given place ≡ Some e
+IsAt l e place = (word : ℕ) × (slice_get l.given place ≡ Some (with_word word e))
 
 -- the place of a process's next entry in the journal: the first that is not made yet and is of this process
 abbrev pub turn_of : FollowView → Pid → Option ℕ
@@ -87,10 +100,14 @@ next_of l = next_unless l.diverged (slice_get l.given (made l))
 abbrev pub IsAdmitted : FollowView → Entry → Type 0
 IsAdmitted l e = refusal (state_of l.locked.hub) e.pid ≡ None
 
--- it is the next step of the journal
-pub record IsNext (l : FollowView) (e : Entry) : Type 0 where
+-- this is the journal's next entry, choice word and all
+pub record IsDue (l : FollowView) (e : Entry) : Type 0 where
   pub following : l.diverged ≡ None
-  pub at : IsAt l e (made l)
+  pub at : slice_get l.given (made l) ≡ Some e
+
+-- it is the next step of the journal, with its own choice word or another
+abbrev pub IsNext : FollowView → Entry → Type 0
+IsNext l e = (word : ℕ) × IsDue l (with_word word e)
 
 -- its turn may come: it is the process's next, and others come first; or the process has none, and others have
 pub record IsEarly (l : FollowView) (e : Entry) : Type 0 where
@@ -135,33 +152,43 @@ with_locked locked l = record l { locked = locked }
 abbrev pub diverged_at : ℕ → FollowView → FollowView
 diverged_at number l = record l { diverged = Some number }
 
--- a step was made: the next of the journal, or one that is free, and then the hub has diverged
-abbrev pub Goes : FollowView → Entry → FollowView → Type 0
-Goes old e new =
-    (IsNext old e × (new ≡ with_locked new.locked old))
-    ⊎ (IsFree old × (old.after ≡ GoesOn) × (new ≡ diverged_at (number_of old) (with_locked new.locked old)))
+-- it is the next step, and was made as the journal has it
+pub record GoesOnward (old : FollowView) (e : Entry) (new : FollowView) (answer : Event) : Type 0 where
+  pub next : IsNext old e
+  pub given : Entry
+  pub due : IsDue old given
+  pub serves : ServesStep old.locked given new.locked (Ok answer)
+  pub stays : new ≡ with_locked new.locked old
+
+-- it is free, and was made as it came, and the hub has diverged
+pub record GoesFreely (old : FollowView) (e : Entry) (new : FollowView) (answer : Event) : Type 0 where
+  pub free : IsFree old
+  pub goes_on : old.after ≡ GoesOn
+  pub serves : ServesStep old.locked e new.locked (Ok answer)
+  pub stays : new ≡ diverged_at (number_of old) (with_locked new.locked old)
 
 -- what a step comes to
 abbrev pub Does : FollowView → Entry → FollowView → Result Event NotMade → Type 0
-Does old e new (Ok answer) = ServesStep old.locked e new.locked (Ok answer) × Goes old e new
+Does old e new (Ok answer) = GoesOnward old e new answer ⊎ GoesFreely old e new answer
 Does old e new (Err (Refused f)) = IsLet old e × Refuses old.locked.hub e f × (new ≡ old)
 Does old e new (Err NotYet) = IsEarly old e × (new ≡ old)
 Does old e new (Err (Diverged number)) = Diverges old e number × (new ≡ diverged_at number old)
 
--- the answer is the one that the journal has recorded: the first event of its next step, which is this, when the journal is
--- made again
-pub record IsRecorded (l : FollowView) (e : Entry) (answer : Event) : Type 0 where
+-- the answer is the one that the journal has recorded: the first event of its next entry, when the journal is made again
+pub record IsRecorded (l : FollowView) (answer : Event) : Type 0 where
+  pub next : Entry
+  pub is_next : slice_get l.given (made l) ≡ Some next
   pub ended : List Event
-  pub told : (moves (state l.locked.hub.terms.head (take (made l) l.given)) e).events ≡ answer ∷ ended
+  pub told : (moves (state l.locked.hub.terms.head (take (made l) l.given)) next).events ≡ answer ∷ ended
 
 -- so the next step is answered, or memory is refused
-abbrev pub AnswersNext : FollowView → Entry → Result Event NotMade → Type 0
-AnswersNext l e (Ok answer) = IsRecorded l e answer
-AnswersNext l e (Err why) = why ≡ Refused fault.NoMemory
+abbrev pub AnswersNext : FollowView → Result Event NotMade → Type 0
+AnswersNext l (Ok answer) = IsRecorded l answer
+AnswersNext l (Err why) = why ≡ Refused fault.NoMemory
 
 -- what a step does and tells
 pub record FollowsStep (old : FollowView) (e : Entry) (new : FollowView) (result : Result Event NotMade) : Type 0 where
   pub does : Does old e new result
   -- as long as nothing has diverged, what was made is a beginning of the journal that it follows
   pub begins : new.diverged ≡ None → IsBeginning new
-  pub next : IsNext old e → AnswersNext old e result
+  pub next : IsNext old e → AnswersNext old result

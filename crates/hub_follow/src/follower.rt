@@ -3,20 +3,20 @@
 //! Both hubs have the same edition, and as many processes. As long as nothing has diverged, what the one has made is a
 //! beginning of what the other has.
 
-ghost use Rattle.std.specs.Prelude.{◌≡◌, ◌<◌, ◌≤◌, ◌==◌, ◌↔◌, IfOk, IfErr, IfSome, IfNone, IsTrue, None, Some, Err, true, length, drop, slice_get};
+ghost use Rattle.std.specs.Prelude.{◌≡◌, ◌<◌, ◌≤◌, ◌==◌, ℕ, IfOk, IfErr, IfSome, IfNone, None, Some, Err, true, length, drop, slice_get};
 ghost use Rattle.std.specs.List.{position_from};
 ghost use Rattle.hub_base.specs.Head.{is_of};
 ghost use Rattle.hub_base.specs.declared.limits.TheConstants.{MOST_BYTES};
 ghost use Rattle.hub_core.specs.HubView.{opened_hub};
 ghost use Rattle.hub_live.specs.Locked.{IsReplyTo, answer_for, none_waits, without_answer};
 ghost use Rattle.hub_chain.specs.Faults.{IsNotLegal};
-ghost use Rattle.hub_follow.specs.Follow.{FollowsAnew, FollowsStep, IsAdmitted, IsBeginning, IsFree, IsNext, diverged_at, next_of, number_of, with_locked};
-ghost use Rattle.hub_follow.specs.Stands.{Passes, Stands};
+ghost use Rattle.hub_follow.specs.Follow.{FollowsAnew, FollowsStep, IsAdmitted, IsBeginning, IsDue, IsFree, diverged_at, next_of, number_of, with_locked, with_word};
+ghost use Rattle.hub_follow.specs.Stands.{Passes, Stands, word_of};
 ghost use Rattle.hub_follow.specs.Stands.{is_of as is_entry_of};
 ghost use Rattle.hub_follow.specs.declared.not_made.NotMade.TheVariants.{Diverged, NotYet};
 
 use crate::NotMade;
-use hub_base::{EntryRef, Event, Pid};
+use hub_base::{CaseSlice, EntryRef, Event, Pid, Step};
 use hub_chain::{ChainFault, is_same_entry, read_hub};
 use hub_core::{Hub, ShortHub};
 use hub_live::under_lock::Locked;
@@ -34,8 +34,8 @@ pub enum AfterDivergence {
 
 /// How a step stands to the journal, where its process's steps are admitted and nothing has diverged.
 pub(crate) enum Stand {
-    /// It is next.
-    Next,
+    /// It is next. The journal has it with this choice word, if it is a call.
+    Next(u64),
     /// Its turn may come.
     Early,
     /// The process's next step is another, of this number.
@@ -54,13 +54,48 @@ fn is_of(hub: &ShortHub, place: usize, pid: Pid) -> bool
     }
 }
 
-/// Whether this entry stands at this place of a hub's journal.
-fn is_at(hub: &ShortHub, place: usize, entry: &EntryRef<'_>) -> bool
-    ensures { IsTrue result ↔ (slice_get hub.now.memory.hub.journal place ≡ Some entry.now) }
+/// The choice word of a call; 0 for any other step.
+fn word_of(step: &Step) -> u64
+    ensures { result ≡ word_of step.now }
 {
-    match hub.entry(place) {
-        Some(other) => is_same_entry(&other.by_slice(), entry),
-        None => false,
+    match step {
+        Step::Call { word, .. } => *word,
+        _ => 0,
+    }
+}
+
+/// This entry, with that choice word in place of its own if it is a call.
+fn with_word<'a>(entry: &EntryRef<'a>, word: u64) -> EntryRef<'a>
+    ensures { result ≡ with_word word entry.now }
+{
+    let step = match &entry.step {
+        Step::Make(cap) => Step::Make(*cap),
+        Step::Call { cases, default, .. } => Step::Call {
+            cases: CaseSlice::few(cases.as_slice()),
+            default: *default,
+            word,
+        },
+        Step::Close(port) => Step::Close(*port),
+        Step::Exit => Step::Exit,
+        Step::Cancel(pid) => Step::Cancel(*pid),
+    };
+    EntryRef {
+        pid: entry.pid,
+        step,
+    }
+}
+
+/// The choice word with which this entry stands at this place of a hub's journal, if it does.
+fn word_at(hub: &ShortHub, place: usize, entry: &EntryRef<'_>) -> Option<u64>
+    ensures found { IfSome result (λ word. slice_get hub.now.memory.hub.journal place ≡ Some (with_word word entry.now)) }
+    ensures none { IfNone result ((word : ℕ) → ¬ (slice_get hub.now.memory.hub.journal place ≡ Some (with_word word entry.now))) }
+{
+    let given = hub.entry(place)?;
+    let word = word_of(&given.step);
+    if is_same_entry(&given.by_slice(), &with_word(entry, word)) {
+        Some(word)
+    } else {
+        None
     }
 }
 
@@ -148,7 +183,8 @@ impl Follower {
     }
 
     /// Makes a step that the hub's edition has, as `Locked::step` does, if it is the next of the journal, and gives its answer.
-    /// After a divergence, and once all of the journal is made, it makes any step, or none, as the opening said.
+    /// A call may come with any choice word: it is made with the journal's. After a divergence, and once all of the journal is
+    /// made, the hub makes any step as it comes, or none, as the opening said.
     ///
     /// A step of a process whose steps are not admitted now is refused as `Locked::step` refuses it.
     pub fn step(&mut self, entry: &EntryRef<'_>) -> Result<Event, NotMade>
@@ -162,7 +198,7 @@ impl Follower {
             return self.step_freely(entry);
         }
         match self.stand(entry) {
-            Stand::Next => self.step_next(entry),
+            Stand::Next(word) => self.step_next(entry, word),
             Stand::Early => self.not_yet(),
             Stand::Other(number) => self.diverge(number),
             Stand::Over => self.step_freely(entry),
@@ -179,9 +215,11 @@ impl Follower {
         }
         match turn_from(&self.given, made, entry.pid) {
             None => Stand::Early,
-            Some(place) if !is_at(&self.given, place, entry) => Stand::Other(place as u32 + 1),
-            Some(place) if place == made => Stand::Next,
-            Some(_) => Stand::Early,
+            Some(place) => match word_at(&self.given, place, entry) {
+                None => Stand::Other(place as u32 + 1),
+                Some(word) if place == made => Stand::Next(word),
+                Some(_) => Stand::Early,
+            },
         }
     }
 
@@ -194,13 +232,13 @@ impl Follower {
         pass(&mut self.hub, entry)
     }
 
-    /// Makes the next step of the journal.
-    fn step_next(&mut self, entry: &EntryRef<'_>) -> Result<Event, NotMade>
+    /// Makes the next step of the journal, which is this one with that choice word.
+    fn step_next(&mut self, entry: &EntryRef<'_>, word: u64) -> Result<Event, NotMade>
         requires fits { is_of self.old.locked.hub.terms.head.edition entry.now.step ≡ true }
-        requires next { IsNext self.old entry.now }
+        requires due { IsDue self.old (with_word word entry.now) }
         ensures rules { FollowsStep self.old entry.now self.new result }
     {
-        pass(&mut self.hub, entry)
+        pass(&mut self.hub, &with_word(entry, word))
     }
 
     /// Makes a step that is admitted, where the hub goes on freely, or else none.

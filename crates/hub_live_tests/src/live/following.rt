@@ -2,11 +2,14 @@
 
 use super::{Ask, DONE, MADE, PARKED, SENT, Told, answer, entry_of};
 use crate::compare::same;
-use hub_base::{Entry, Event, Fault, Kind, Pid, TextFault};
+use hub_base::{
+    Case, Cases, CasesExt, Entry, Event, Fault, Kind, Pid, Port, Step, TextFault, Value, cases_from,
+};
 use hub_chain::ChainFault;
 use hub_follow::{AfterDivergence, Follower, NotMade};
 use std::alloc::Global;
 use std::process::Abort;
+use std::test::Fail;
 
 /// Process 1 waits for the value that process 0 sends, and then process 0 closes the port.
 const JOURNAL: &[u8] = b"chanhub journal 2\nprocs 2\n0 make 0\n1 recv 1\n0 send 1 9\n0 close 1\n";
@@ -151,4 +154,76 @@ fn journals_are_followed(rt: HostRuntime) {
         Some(no_step),
         "no step",
     );
+}
+
+/// Both sends of the first select could be made, and its word chooses the second. The next two calls have one case.
+const CHOICES: &[u8] =
+    b"chanhub journal 1\nprocs 1\n0 make 4\n0 select 3 s1:7 s1:8\n0 select 6 s1:5\n0 send 1 9\n";
+
+/// A send of this number.
+fn send(number: u64) -> Case {
+    Case::Send(Port(1), Value::num(number))
+}
+
+/// A call of process 0.
+fn select(cases: Cases, default: bool, word: u64) -> Entry {
+    Entry {
+        pid: Pid(0),
+        step: Step::Call {
+            cases,
+            default,
+            word,
+        },
+    }
+}
+
+/// A hub that follows those choices, and has made the port.
+fn choosing(rt: &impl Abort, alloc: Global) -> Result<Follower, ChainFault> {
+    let mut hub = Follower::open(alloc, CHOICES, AfterDivergence::Ends)?;
+    let made = ask(rt, &mut hub, &entry_of(0, Ask::Make(4)));
+    same(rt, made, told_as(0, MADE), "make");
+    Ok(hub)
+}
+
+/// The call that stands here in the hub's journal has this choice word.
+fn has_word(rt: &impl Abort, hub: &Follower, place: usize, wanted: u64) {
+    let found = match hub.locked().entry(place) {
+        Some(
+            Entry {
+                pid: _,
+                step: Step::Call { word, .. },
+            },
+        ) => Some(word),
+        _ => None,
+    };
+    same(rt, found, Some(wanted), place);
+}
+
+#[test]
+fn a_select_is_made_with_the_choice_word_of_the_journal(rt: HostRuntime) -> Result<(), Fail> {
+    let mut hub = choosing(&rt, rt.alloc())?;
+    let two = select(cases_from(&[send(7), send(8)]), false, 2);
+    same(&rt, ask(&rt, &mut hub, &two), told_as(0, Told::Sent(1)), 1);
+    let plain = entry_of(0, Ask::Send(5));
+    same(&rt, ask(&rt, &mut hub, &plain), told_as(0, SENT), 2);
+    let worded = select(Cases::one(send(9)), false, 4);
+    same(&rt, ask(&rt, &mut hub, &worded), told_as(0, SENT), 3);
+    has_word(&rt, &hub, 1, 3);
+    has_word(&rt, &hub, 2, 6);
+    has_word(&rt, &hub, 3, 0);
+    same(&rt, hub.diverged(), None, "diverged");
+    Ok(())
+}
+
+#[test]
+fn another_case_or_default_is_a_divergence(rt: HostRuntime) -> Result<(), Fail> {
+    let mut hub = choosing(&rt, rt.alloc())?;
+    let other_case = select(cases_from(&[send(7), send(9)]), false, 3);
+    let told = ask(&rt, &mut hub, &other_case);
+    same(&rt, told, Err(NotMade::Diverged(2)), "case");
+    let mut hub = choosing(&rt, rt.alloc())?;
+    let with_default = select(cases_from(&[send(7), send(8)]), true, 3);
+    let told = ask(&rt, &mut hub, &with_default);
+    same(&rt, told, Err(NotMade::Diverged(2)), "default");
+    Ok(())
 }

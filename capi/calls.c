@@ -21,96 +21,69 @@ uint8_t look_closer(chanhub *h, unsigned pid, bool exits) {
  * hands out the chapter that it made fall out, sees to the clock, and where it parked, waits for so many nanoseconds. Holds the
  * lock since the step, and leaves it. */
 chanhub_told finish_by_waking(chanhub *h, uint8_t pid, const struct told *t, uint64_t nanoseconds) {
-    uint64_t ended = t->ended;
     bool has_parked = t->it.what == CHANHUB_WAITING;
     if (has_parked) h->open |= only(pid);
-    note_ended(h, ended);
+    uint64_t woken = note_step(h, t);
     bool claimed = claims_chapter(h, t->chapter);
     if (has_parked || claimed || is_clock_due(h)) {
-        wake(h, ended);
-        ended = 0;
+        wake(h, woken);
+        woken = 0;
         if (claimed) hand_out(h, pid);
-        settle_clock(h, pid);
+        if (is_clock_due(h)) settle_clock(h, pid);
     }
     chanhub_told answer = has_parked ? wait_for(h, pid, nanoseconds) : t->it;
     leave_lock(h);
-    wake(h, ended);
+    wake(h, woken);
     return answer;
 }
 
+/* What each of these calls does, and returns: it is refused as a bad call where that is so; or it enters, makes its step and shows
+ * what that changed, and ends, after so many nanoseconds where it waits. `t` is what the step comes to. */
+#define CALL(bad, exits, step, shows, nanoseconds) \
+    if (bad) return fault(CHANHUB_BAD_CALL); \
+    uint8_t why = enter_for(h, pid, exits); \
+    if (why) return refused(h, why); \
+    struct told t = { 0 }; \
+    STEP(h, pid, &t, step); \
+    shows; \
+    return finish(h, (uint8_t)pid, &t, nanoseconds)
+
 chanhub_told chanhub_make(chanhub *h, unsigned pid, uint32_t cap) {
-    struct told t = { 0 };
-    if (is_bad(h, pid, 0)) return fault(CHANHUB_BAD_CALL);
-    uint8_t why = enter(h, pid);
-    if (why) return refused(h, why);
-    STEP(h, pid, &t, hub_c_make(&h->hub, (uint8_t)pid, cap, &t));
-    return finish(h, (uint8_t)pid, &t, FOR_EVER);
+    CALL(is_bad(h, pid, 0), false, hub_c_make(&h->hub, (uint8_t)pid, cap, &t), (void)0, FOR_EVER);
 }
 
 chanhub_told chanhub_send(chanhub *h, unsigned pid, unsigned port, chanhub_value value) {
-    struct told t = { 0 };
-    if (is_bad(h, pid, port)) return fault(CHANHUB_BAD_CALL);
-    uint8_t why = enter(h, pid);
-    if (why) return refused(h, why);
-    STEP(h, pid, &t, hub_c_send(&h->hub, (uint8_t)pid, (uint16_t)port, &value, &t));
-    show_port(h, port);
-    return finish(h, (uint8_t)pid, &t, FOR_EVER);
+    CALL(is_bad(h, pid, port), false, hub_c_send(&h->hub, (uint8_t)pid, (uint16_t)port, &value, &t), show_port(h, port), FOR_EVER);
 }
 
 chanhub_told chanhub_recv(chanhub *h, unsigned pid, unsigned port) {
-    struct told t = { 0 };
-    if (is_bad(h, pid, port)) return fault(CHANHUB_BAD_CALL);
-    uint8_t why = enter(h, pid);
-    if (why) return refused(h, why);
-    STEP(h, pid, &t, hub_c_recv(&h->hub, (uint8_t)pid, (uint16_t)port, &t));
-    show_port(h, port);
-    return finish(h, (uint8_t)pid, &t, FOR_EVER);
+    CALL(is_bad(h, pid, port), false, hub_c_recv(&h->hub, (uint8_t)pid, (uint16_t)port, &t), show_port(h, port), FOR_EVER);
 }
 
 chanhub_told chanhub_close(chanhub *h, unsigned pid, unsigned port) {
-    struct told t = { 0 };
-    if (is_bad(h, pid, port)) return fault(CHANHUB_BAD_CALL);
-    uint8_t why = enter(h, pid);
-    if (why) return refused(h, why);
-    STEP(h, pid, &t, hub_c_close(&h->hub, (uint8_t)pid, (uint16_t)port, &t));
-    show_port(h, port);
-    return finish(h, (uint8_t)pid, &t, FOR_EVER);
+    CALL(is_bad(h, pid, port), false, hub_c_close(&h->hub, (uint8_t)pid, (uint16_t)port, &t), show_port(h, port), FOR_EVER);
 }
 
 chanhub_told chanhub_exit(chanhub *h, unsigned pid) {
-    struct told t = { 0 };
-    if (is_bad(h, pid, 0)) return fault(CHANHUB_BAD_CALL);
-    uint8_t why = enter_for(h, pid, true);
-    if (why) return refused(h, why);
-    STEP(h, pid, &t, hub_c_exit(&h->hub, (uint8_t)pid, &t));
-    h->exits += t.it.what == CHANHUB_DONE;
-    return finish(h, (uint8_t)pid, &t, FOR_EVER);
+    CALL(is_bad(h, pid, 0), true, hub_c_exit(&h->hub, (uint8_t)pid, &t), h->exits += t.it.what == CHANHUB_DONE, FOR_EVER);
 }
 
 chanhub_told chanhub_cancel(chanhub *h, unsigned pid, unsigned other) {
-    struct told t = { 0 };
-    if (is_bad(h, pid, 0) || other > GREATEST_PID) return fault(CHANHUB_BAD_CALL);
-    if (other == h->clock && other != NOBODY) return fault(CHANHUB_NO_PROCESS);
-    uint8_t why = enter(h, pid);
-    if (why) return refused(h, why);
-    STEP(h, pid, &t, hub_c_cancel(&h->hub, (uint8_t)pid, (uint8_t)other, &t));
-    return finish(h, (uint8_t)pid, &t, FOR_EVER);
+    if (!is_bad(h, pid, 0) && other == h->clock && other != NOBODY) return fault(CHANHUB_NO_PROCESS);
+    CALL(is_bad(h, pid, 0) || other > GREATEST_PID, false, hub_c_cancel(&h->hub, (uint8_t)pid, (uint8_t)other, &t), (void)0, FOR_EVER);
 }
 
-/* A select that waits for at most so many nanoseconds, and stays open then. */
-chanhub_told select_for(chanhub *h, unsigned pid, const chanhub_case *cases, size_t count, bool has_default, uint64_t word,
-                        uint64_t nanoseconds) {
-    struct told t = { 0 };
-    if (is_bad(h, pid, 0)) return fault(CHANHUB_BAD_CALL);
-    uint8_t why = enter(h, pid);
-    if (why) return refused(h, why);
-    STEP(h, pid, &t, hub_c_call(&h->hub, (uint8_t)pid, cases, count, has_default, word, &t));
-    show_fired(h, cases, count, &t);
-    return finish(h, (uint8_t)pid, &t, nanoseconds);
-}
+/* A select that stays open in the hub once it has waited for so long. */
+#define SELECT(nanoseconds) \
+    CALL(is_bad(h, pid, 0) || !are_cases(cases, count), false, \
+         hub_c_call(&h->hub, (uint8_t)pid, cases, count, has_default, word, &t), show_fired(h, cases, count, &t), nanoseconds)
 
 chanhub_told chanhub_select(chanhub *h, unsigned pid, const chanhub_case *cases, size_t count, bool has_default, uint64_t word) {
-    return select_for(h, pid, cases, count, has_default, word, FOR_EVER);
+    SELECT(FOR_EVER);
+}
+
+chanhub_told chanhub_begin(chanhub *h, unsigned pid, const chanhub_case *cases, size_t count, bool has_default, uint64_t word) {
+    SELECT(0);
 }
 
 /* A select of this one case, with a default. */
@@ -126,10 +99,6 @@ chanhub_told chanhub_try_send(chanhub *h, unsigned pid, unsigned port, chanhub_v
 
 chanhub_told chanhub_try_recv(chanhub *h, unsigned pid, unsigned port) {
     return try_case(h, pid, port, false, (chanhub_value){ 0 });
-}
-
-chanhub_told chanhub_begin(chanhub *h, unsigned pid, const chanhub_case *cases, size_t count, bool has_default, uint64_t word) {
-    return select_for(h, pid, cases, count, has_default, word, 0);
 }
 
 chanhub_told chanhub_resume(chanhub *h, unsigned pid, uint64_t nanoseconds) {

@@ -29,8 +29,7 @@ bool is_clock_next(chanhub *h) {
 /* Does what follows from a step that was made within a call of this process: wakes those whose calls it ended, and hands out the
  * chapter that it made fall out. */
 void follow_up(chanhub *h, unsigned pid, const struct told *t) {
-    note_ended(h, t->ended);
-    wake(h, t->ended);
+    wake(h, note_step(h, t));
     if (claims_chapter(h, t->chapter)) hand_out(h, pid);
 }
 
@@ -102,7 +101,9 @@ uint8_t refusal_by_clock(chanhub *h, unsigned pid, bool exits) {
     settle_clock(h, pid);
     if (exits) {
         struct told t = { 0 };
-        if (is_clock_due(h)) exit_clock(h, &t);
+        if (!is_clock_due(h)) return 0;
+        exit_clock(h, &t);
+        follow_up(h, pid, &t);
         return 0;
     }
     if (is_clock_due(h)) return CHANHUB_NO_MEMORY;

@@ -46,13 +46,14 @@ static bool waits_when_tried(chanhub *h, unsigned pid, bool followed) {
 }
 
 /* Has the clock cancel the open call of this process, unless that is answered before, and picks up its answer. WAITING with the
- * fault where the clock was refused memory. */
+ * fault where the clock was refused memory. Behind the end of the journal that the hub follows, this ends the hub. */
 chanhub_told time_out(chanhub *h, unsigned pid) {
     struct told t = { 0 };
-    while (h->timed & only(pid)) {
+    while (h->timed & only(pid) && !h->end) {
         cancel_by_clock(h, pid, &t);
         if (is_to_be_made_again(h, pid, &t)) continue;
-        if (t.it.what != CHANHUB_DONE) return (chanhub_told){ .what = CHANHUB_WAITING, .fault = t.it.fault };
+        bool is_refused = t.it.what != CHANHUB_DONE && t.it.fault != CHANHUB_DIVERGED;
+        if (is_refused) return (chanhub_told){ .what = CHANHUB_WAITING, .fault = t.it.fault };
         follow_up(h, pid, &t);
         settle_clock(h, pid);
     }
@@ -83,12 +84,14 @@ static chanhub_told wait_with_deadline(chanhub *h, unsigned pid, const chanhub_c
  * that a journal has, and then was refused memory, goes on from there. */
 static chanhub_told select_until(chanhub *h, unsigned pid, const chanhub_case *cases, size_t count, bool has_default,
                                  uint64_t word, uint64_t deadline, uint64_t nanoseconds) {
-    struct told t = { 0 };
     if (is_bad(h, pid, 0) || h->clock == NOBODY) return fault(CHANHUB_BAD_CALL);
-    if (has_default || deadline == FOR_EVER) return select_for(h, pid, cases, count, has_default, word, nanoseconds);
+    if (has_default || deadline == FOR_EVER) {
+        return (nanoseconds ? chanhub_select : chanhub_begin)(h, pid, cases, count, has_default, word);
+    }
     if (pid >= h->clock) return fault(CHANHUB_NO_PROCESS);
     uint8_t why = enter(h, pid);
     if (why) return refused(h, why);
+    struct told t = { 0 };
     bool waits, followed;
     h->places[pid].deadline = deadline;
     if (h->follows && next_step(h, pid) == h->clock) return wait_with_deadline(h, pid, cases, count, word, nanoseconds);
@@ -128,11 +131,13 @@ chanhub_told chanhub_recv_until(chanhub *h, unsigned pid, unsigned port, uint64_
 
 chanhub_told chanhub_select_until(chanhub *h, unsigned pid, const chanhub_case *cases, size_t count, bool has_default,
                                   uint64_t word, uint64_t deadline) {
+    if (!are_cases(cases, count)) return fault(CHANHUB_BAD_CALL);
     return select_until(h, pid, cases, count, has_default, word, deadline, FOR_EVER);
 }
 
 chanhub_told chanhub_begin_until(chanhub *h, unsigned pid, const chanhub_case *cases, size_t count, bool has_default,
                                  uint64_t word, uint64_t deadline) {
+    if (!are_cases(cases, count)) return fault(CHANHUB_BAD_CALL);
     return select_until(h, pid, cases, count, has_default, word, deadline, 0);
 }
 

@@ -35,6 +35,7 @@ enum {
     MOST_PROCS = 64,
     NOBODY = MOST_PROCS, /* the number of no process */
     MOST_PORTS = 64,
+    MOST_CASES = 16,
     GREATEST_PID = 255,
     GREATEST_PORT = 65535,
     BILLION = 1000000000
@@ -85,7 +86,6 @@ struct chanhub {
     bool goes_on;               /* whether it goes on when it has diverged from that */
     bool asks_again;            /* whether a call whose turn has not come is told so */
     struct recorded recorded;   /* that journal, if it has a clock */
-    uint64_t turns;             /* whose calls wait for their turn */
     atomic_uint_least64_t end;  /* the number of the step at which it ended, since it diverged there; else 0 */
     bool waits;                 /* whether a chapter waits in the hub; the thread that claimed it hands it out */
     bool handing;               /* whether a chapter is being handed out */
@@ -118,6 +118,11 @@ static inline bool is_bad(const chanhub *h, unsigned pid, unsigned port) {
     return !h || pid > GREATEST_PID || port > GREATEST_PORT;
 }
 
+/* Whether there are so many cases, and a call may have them. */
+static inline bool are_cases(const chanhub_case *cases, size_t count) {
+    return count <= MOST_CASES && (cases || !count);
+}
+
 static inline chanhub_told fault(uint8_t number) {
     return (chanhub_told){ .what = CHANHUB_FAULT, .fault = number };
 }
@@ -142,8 +147,6 @@ chanhub_told wait_for(chanhub *h, unsigned pid, uint64_t nanoseconds);
 /* calls.c */
 uint8_t look_closer(chanhub *h, unsigned pid, bool exits);
 chanhub_told finish_by_waking(chanhub *h, uint8_t pid, const struct told *t, uint64_t nanoseconds);
-chanhub_told select_for(chanhub *h, unsigned pid, const chanhub_case *cases, size_t count, bool has_default, uint64_t word,
-                        uint64_t nanoseconds);
 
 /* clock.c */
 void set_clock(chanhub *h, enum clock clock_is);
@@ -160,6 +163,7 @@ chanhub_told time_out(chanhub *h, unsigned pid);
 
 /* following.c */
 void end_at(chanhub *h, uint64_t number);
+uint64_t pass_turn(chanhub *h, const struct told *t);
 bool is_for_another_try(chanhub *h, unsigned pid, struct told *t);
 
 /* journals.c */
@@ -196,12 +200,12 @@ static inline uint64_t ticks(void) {
 #endif
 }
 
-/* Wakes these processes. With the lock or without. */
+/* Wakes these processes: the thread that calls, and those that wait for its turn. With the lock or without. */
 static inline void wake(chanhub *h, uint64_t pids) {
     for (; pids; pids &= pids - 1) {
         struct place *place = &h->places[__builtin_ctzll(pids)];
         atomic_store(&place->told, ticks() | 1);
-        pthread_cond_signal(&place->answered);
+        pthread_cond_broadcast(&place->answered);
     }
 }
 
@@ -272,11 +276,12 @@ static inline bool is_clock_due(chanhub *h) {
     return h->follows ? is_clock_next(h) : h->clock_is == AWAKE && !h->timed;
 }
 
-/* Notes whose calls a step ended. If the clock's is among them, it is awake; its answer is left, until its next step. Holds the
- * lock since that step. */
-static inline void note_ended(chanhub *h, uint64_t ended) {
-    h->timed &= ~ended;
-    if (ended & only(h->clock)) set_clock(h, AWAKE);
+/* Notes what follows from a step, and returns whom to wake: those whose calls it ended. If the clock's is among them, it is
+ * awake; its answer is left, until its next step. Holds the lock since that step. */
+static inline uint64_t note_step(chanhub *h, const struct told *t) {
+    h->timed &= ~t->ended;
+    if (t->ended & only(h->clock)) set_clock(h, AWAKE);
+    return h->follows ? t->ended | pass_turn(h, t) : t->ended;
 }
 
 /* Ends the call of a process whose step came to this, which mostly needs no more than the lock. Holds the lock since the step,

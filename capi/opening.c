@@ -114,6 +114,7 @@ int chanhub_open_with(chanhub **hub, const chanhub_options *options) {
     const chanhub_options *o = options;
     unsigned edition = o->edition ? o->edition : 2, procs = o->procs;
     *hub = NULL;
+    if (o->journal_line) *o->journal_line = 0;
     if (o->journal) return open_following(hub, o);
     if (o->clock && (procs < 1 || procs >= MOST_PROCS)) return 1;
     if (o->clock && edition == 1) return 4;

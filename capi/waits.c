@@ -70,9 +70,10 @@ bool has_passed(uint64_t time) {
     return time != FOR_EVER && time <= now();
 }
 
-/* When the deadline of this process's open call passes. No time ends a call while the hub follows a journal. Holds the lock. */
-static uint64_t deadline_of(const chanhub *h, unsigned pid) {
-    return h->timed & only(pid) && !h->follows ? h->places[pid].deadline : FOR_EVER;
+/* When the deadline of this process's open call passes. No time ends a call until all of the journal that the hub follows is
+ * made. Holds the lock. */
+static uint64_t deadline_of(chanhub *h, unsigned pid) {
+    return h->timed & only(pid) && !(h->follows && hub_c_next(&h->hub)) ? h->places[pid].deadline : FOR_EVER;
 }
 
 /* ---- Waits for answers. ---- */

@@ -156,6 +156,25 @@ static void rubbish_in_receives(void) {
     chanhub_free(hub);
 }
 
+/* No cases where there are to be some, and too many: whatever the process, and the hub. */
+static void bad_cases(void) {
+    chanhub *hub;
+    chanhub_case many[17] = { 0 };
+    chanhub_options options = { .procs = 2, .clock = true };
+    is("opened", chanhub_open_with(&hub, &options), 0);
+    is("waiting", chanhub_begin(hub, 0, many, 1, false, 0).what, CHANHUB_WAITING);
+    for (size_t count = 1; count <= SIZE_MAX / 2; count *= 2) {
+        const chanhub_case *cases = count > 16 ? many : NULL;
+        is_fault("select", chanhub_select(hub, 0, cases, count, true, 0), CHANHUB_BAD_CALL);
+        is_fault("begin", chanhub_begin(hub, 0, cases, count, false, 0), CHANHUB_BAD_CALL);
+        is_fault("select until", chanhub_select_until(hub, 0, cases, count, true, 0, 0), CHANHUB_BAD_CALL);
+        is_fault("begin until", chanhub_begin_until(hub, 0, cases, count, false, 0, 0), CHANHUB_BAD_CALL);
+    }
+    is_fault("17 cases", chanhub_select(hub, 0, many, 17, true, 0), CHANHUB_BAD_CALL);
+    has_journal("journal", hub, "chanhub journal 2\nprocs 3\n2 recv 0\n0 recv 0\n");
+    chanhub_free(hub);
+}
+
 /* A cancel of a number that is no process is in the journal where it is one of a byte, and else is a bad call. */
 static void cancels(void) {
     chanhub *hub;
@@ -173,6 +192,7 @@ static void *run(void *unused) {
     edition_one();
     edition_two();
     rubbish_in_receives();
+    bad_cases();
     cancels();
     return unused;
 }

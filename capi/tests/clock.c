@@ -6,6 +6,7 @@
 #include "hub_c.h"
 #include "tally.h"
 
+#include <pthread.h>
 #include <stdlib.h>
 
 enum { SECONDS = 300, MOST_STEPS = 40, MOST_TRIES = 100 };
@@ -178,6 +179,33 @@ static void while_following(bool goes_on) {
     }
 }
 
+/* A thread waits when the last step of a journal leaves it alone, and the clock is refused memory to wait. The clock exits when
+ * somebody asks for an exit, and the thread is told of the deadlock. */
+static void *waits(void *unused) {
+    is("stalled", chanhub_recv(hub, 0, 1).what, CHANHUB_STALLED);
+    return unused;
+}
+
+static void an_exit_of_the_clock_ends_calls(void) {
+    static const char *const journal =
+        "chanhub journal 2\nprocs 3\n2 recv 0\n0 make 0\n0 select 0 r1 default\n0 cancel 2\n0 recv 1\n2 cancel 0\n0 recv 1\n1 exit\n";
+    chanhub_options options = { .journal = journal, .journal_length = strlen(journal), .goes_on = true };
+    pthread_t thread;
+    first = count = 0;
+    is("opened", chanhub_open_with(&hub, &options), 0);
+    is("made", chanhub_make(hub, 0, 0).port, 1);
+    is("timed out", chanhub_recv_until(hub, 0, 1, FAR_OFF).what, CHANHUB_TIMED_OUT);
+    pthread_create(&thread, NULL, waits, NULL);
+    await_entries(hub, 7);
+    usleep(20000);
+    first = steps, count = MOST_STEPS;
+    is("exit", chanhub_exit(hub, 1).what, CHANHUB_DONE);
+    is_fault("exited", chanhub_exit(hub, 1), CHANHUB_GONE);
+    pthread_join(thread, NULL);
+    is("the clock exits", in_journal("\n2 exit\n"), 1);
+    chanhub_free(hub);
+}
+
 int main(void) {
     int runs = 0, clocks = 0;
     alarm(SECONDS);
@@ -193,6 +221,7 @@ int main(void) {
     without_the_clock();
     while_following(false);
     while_following(true);
+    an_exit_of_the_clock_ends_calls();
     printf("%d runs with refusals, %d of them of the clock's\n", runs, clocks);
     return tally("clock");
 }

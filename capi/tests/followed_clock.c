@@ -198,6 +198,69 @@ static void at_the_end(void) {
     is("as it was told", chanhub_recv_until(hub, 0, 1, FAR_OFF).what, CHANHUB_TIMED_OUT);
     is_diverged("behind the end", chanhub_recv_until(hub, 0, 1, FAR_OFF), 4);
     chanhub_free(hub);
+
+    /* The clock is awake when the last step, an exit, leaves another process waiting. */
+    hub = begun(BEGINNING "0 select 0 r1 default\n0 cancel 2\n0 recv 1\n2 cancel 0\n0 recv 1\n1 exit\n", true);
+    is("timed out", chanhub_recv_until(hub, 0, 1, FAR_OFF).what, CHANHUB_TIMED_OUT);
+    is("waits", begin_recv(hub, 0, CHANHUB_NEVER).what, CHANHUB_WAITING);
+    is("exit", chanhub_exit(hub, 1).what, CHANHUB_DONE);
+    is("stalled", chanhub_resume(hub, 0, 0).what, CHANHUB_STALLED);
+    chanhub_free(hub);
+}
+
+/* All wait when the journal ends, as in that of a program that hung. In a hub that does not go on, the deadline that passes first
+ * is a divergence there. */
+static void *waits_at_the_end(void *hub) {
+    is_diverged("its deadline passes", chanhub_recv_until(hub, 0, 1, 0), 7);
+    return NULL;
+}
+
+static void all_wait_at_the_end(void) {
+    static const char *const journal = BEGINNING "0 select 0 r1 default\n0 cancel 2\n0 recv 1\n1 recv 1\n";
+    pthread_t thread;
+    chanhub *hub = begun(journal, false);
+    is("waits", begin_recv(hub, 0, 0).what, CHANHUB_WAITING);
+    is("no deadline passes yet", chanhub_resume(hub, 0, MILLISECOND).what, CHANHUB_WAITING);
+    is("waits", begin_recv(hub, 1, CHANHUB_NEVER).what, CHANHUB_WAITING);
+    is_diverged("its deadline passes", chanhub_resume(hub, 0, CHANHUB_NEVER), 7);
+    is_diverged("the other", chanhub_resume(hub, 1, CHANHUB_NEVER), 7);
+    has_journal("the same", hub, journal);
+    chanhub_free(hub);
+
+    hub = begun(journal, false);
+    pthread_create(&thread, NULL, waits_at_the_end, hub);
+    await_entries(hub, 5);
+    usleep(20000);
+    is_diverged("told so too", chanhub_recv(hub, 1, 1), 7);
+    pthread_join(thread, NULL);
+    chanhub_free(hub);
+}
+
+/* A call with a deadline waits for its turn, and is made again, in vain, when another has diverged: no deadline is left. */
+static void *calls_again(void *hub) {
+    is_fault("no port", chanhub_recv_until(hub, 0, 1, 0), CHANHUB_NO_PORT);
+    return NULL;
+}
+
+static void *waits_without(void *hub) {
+    is("got", (long long)chanhub_recv(hub, 0, 1).value.number, 9);
+    return NULL;
+}
+
+static void no_deadline_is_left(void) {
+    pthread_t thread;
+    chanhub *hub = follows("chanhub journal 2\nprocs 3\n2 recv 0\n1 make 1\n0 recv 1\n1 send 1 5\n", true);
+    pthread_create(&thread, NULL, calls_again, hub);
+    usleep(20000);
+    is_diverged("another capacity", chanhub_make(hub, 1, 0), 2);
+    pthread_join(thread, NULL);
+    is("made", chanhub_make(hub, 1, 0).port, 1);
+    pthread_create(&thread, NULL, waits_without, hub);
+    await_entries(hub, 4);
+    usleep(20000);
+    is("sent", chanhub_send(hub, 1, 1, chanhub_number(9)).what, CHANHUB_SENT);
+    pthread_join(thread, NULL);
+    chanhub_free(hub);
 }
 
 /* Why the journal with these entries is not followed, or 0; whether its hub has a clock. */
@@ -240,6 +303,8 @@ int main(void) {
     a_thread_waits();
     no_deadline_before();
     at_the_end();
+    all_wait_at_the_end();
+    no_deadline_is_left();
     openings();
     return tally("followed clock");
 }

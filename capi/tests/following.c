@@ -65,6 +65,14 @@ static void divergences(void) {
     chanhub_free(hub);
 }
 
+/* Opens no hub, for this reason, in no line of a journal. */
+static void is_refused(const char *name, chanhub_options options, int wanted) {
+    chanhub *hub;
+    uint32_t line = 7;
+    options.journal_line = &line;
+    is(name, chanhub_open_with(&hub, &options), wanted), is("no line", line, 0), is("no hub", hub == NULL, 1);
+}
+
 /* Why a journal is not followed, and what the options must not say with one. */
 static void refusals(void) {
     chanhub *hub;
@@ -82,11 +90,14 @@ static void refusals(void) {
     is("other processes", chanhub_open_with(&hub, &options), 1), is("no line", line, 0);
     options.procs = 2, options.edition = 1;
     is("another edition", chanhub_open_with(&hub, &options), 4);
-    options.edition = 2, options.limit = 10;
-    is("a limit", chanhub_open_with(&hub, &options), 7);
-    options.limit = 0, options.clock = true;
-    is("a clock", chanhub_open_with(&hub, &options), 7);
-    options.clock = false, options.journal_line = NULL;
+    options.edition = 2;
+    chanhub_options limited = options, kept = options, timed = options;
+    limited.limit = 10, kept.keep = 5, timed.clock = true;
+    is_refused("a limit", limited, 7);
+    is_refused("chapters", kept, 7);
+    is_refused("a clock", timed, 7);
+    is_refused("no processes and no journal", (chanhub_options){ 0 }, 1);
+    options.journal_line = NULL;
     is("opened", chanhub_open_with(&hub, &options), 0);
     chanhub_free(hub);
     const char *sixty = "chanhub journal 1\nprocs 64\n63 exit\n";
@@ -133,6 +144,70 @@ static void stops(void) {
     is("it follows nothing", chanhub_turn(hub, 0, 0), 1);
     chanhub_free(hub);
     chanhub_stop(NULL);
+}
+
+/* A stop behind a divergence leaves the number that is told. */
+static void stops_behind_a_divergence(void) {
+    chanhub *hub = follows(JOURNAL, false);
+    is_diverged("another step", chanhub_make(hub, 1, 0), 2);
+    chanhub_stop(hub);
+    is_diverged("the same", chanhub_make(hub, 0, 0), 2);
+    chanhub_free(hub);
+}
+
+/* Nothing is made behind a stop, not even by a call that was woken for its turn before. */
+static void *was_woken(void *told) {
+    chanhub *hub = *(chanhub **)told;
+    *(chanhub_told *)told = chanhub_recv(hub, 1, 1);
+    return NULL;
+}
+
+static void stops_a_woken_call(void) {
+    enum { ROUNDS = 100 };
+    for (int i = 0; i < ROUNDS; i++) {
+        pthread_t thread;
+        union { chanhub *hub; chanhub_told told; } call = { .hub = follows("chanhub journal 2\nprocs 2\n0 make 1\n0 send 1 9\n1 recv 1\n", false) };
+        chanhub *hub = call.hub;
+        pthread_create(&thread, NULL, was_woken, &call);
+        usleep(200);
+        is("made", chanhub_make(hub, 0, 1).port, 1);
+        is("sent", chanhub_send(hub, 0, 1, chanhub_number(9)).what, CHANHUB_SENT);
+        chanhub_stop(hub);
+        long long number = (long long)chanhub_exit(hub, 0).value.number;
+        pthread_join(thread, NULL);
+        is("what was made before", (long long)lines_of(hub) - 2, number - 1);
+        if (number == 3) is_diverged("stopped", call.told, 3);
+        chanhub_free(hub);
+    }
+}
+
+/* Turns of no process, and beside a call of the process that waits for its own. */
+static void *turn(void *hub) {
+    is("its turn", chanhub_turn(hub, 1, CHANHUB_NEVER), 1);
+    return NULL;
+}
+
+static void *receives(void *hub) {
+    is("got", (long long)chanhub_recv(hub, 1, 1).value.number, 9);
+    return NULL;
+}
+
+static void turns_beside_calls(void) {
+    enum { ROUNDS = 20 };
+    chanhub *hub = follows(JOURNAL, false);
+    is("no process", chanhub_turn(hub, 64, CHANHUB_NEVER) && chanhub_turn(hub, 255, CHANHUB_NEVER), 1);
+    chanhub_free(hub);
+    for (int i = 0; i < ROUNDS; i++) {
+        pthread_t threads[3];
+        hub = follows(JOURNAL, false);
+        for (int j = 0; j < 3; j++) pthread_create(&threads[j], NULL, j == i % 3 ? receives : turn, hub);
+        is("not yet", chanhub_turn(hub, 1, 300000), 0);
+        is("made", chanhub_make(hub, 0, 0).port, 1);
+        is("sent", chanhub_send(hub, 0, 1, chanhub_number(9)).what, CHANHUB_SENT);
+        is("closed", chanhub_close(hub, 0, 1).what, CHANHUB_DONE);
+        for (int j = 0; j < 3; j++) pthread_join(threads[j], NULL);
+        chanhub_free(hub);
+    }
 }
 
 /* ---- Random runs. ---- */
@@ -241,6 +316,9 @@ int main(int count, char **words) {
         divergences();
         refusals();
         stops();
+        stops_behind_a_divergence();
+        stops_a_woken_call();
+        turns_beside_calls();
     } else {
         uint32_t runs = count > 2 ? (uint32_t)atoi(words[2]) : RUNS;
         for (uint32_t seed = 0; seed < runs; seed++) random_run(seed);

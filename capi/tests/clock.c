@@ -200,6 +200,7 @@ static void an_exit_of_the_clock_ends_calls(void) {
     usleep(20000);
     first = steps, count = MOST_STEPS;
     is("exit", chanhub_exit(hub, 1).what, CHANHUB_DONE);
+    usleep(20000);
     is_fault("exited", chanhub_exit(hub, 1), CHANHUB_GONE);
     pthread_join(thread, NULL);
     is("the clock exits", in_journal("\n2 exit\n"), 1);

@@ -286,6 +286,34 @@ static void across_cuts(void) {
     chanhub_free(hub);
 }
 
+/* A clock in a hub that cuts at each step and hands out each chapter: a step of the library waits for no room that only its own
+ * thread could make. */
+static void open_cutting(void) {
+    chanhub_options options = { .procs = 2, .keep = 1, .chapters = ignore, .clock = true };
+    is("opened", chanhub_open_with(&hub, &options), 0);
+}
+
+static void at_each_step(void) {
+    open_cutting();
+    is("made", chanhub_make(hub, 0, 1).port, 1);
+    for (uint64_t i = 0; i < 20; i++) {
+        is("timed out", chanhub_recv_until(hub, 0, 1, chanhub_in(i % 2 * MILLISECOND)).what, CHANHUB_TIMED_OUT);
+        is("sent", chanhub_send(hub, 0, 1, chanhub_number(i)).what, CHANHUB_SENT);
+        is("got", chanhub_recv_until(hub, 0, 1, FAR_OFF).what, CHANHUB_GOT);
+    }
+    chanhub_free(hub);
+}
+
+/* A call that is begun with a deadline and resumed for longer ends at its deadline. */
+static void resumed_for_longer(void) {
+    open_hub(2, LIMIT);
+    uint64_t begun = chanhub_in(0);
+    is("waiting", begin_recv_until(0, 0, begun + 10 * MILLISECOND).what, CHANHUB_WAITING);
+    is("timed out", chanhub_resume(hub, 0, 5000 * MILLISECOND).what, CHANHUB_TIMED_OUT);
+    is("before the resume ends", chanhub_in(0) < begun + 4000 * MILLISECOND, 1);
+    chanhub_free(hub);
+}
+
 static void alone(void) {
     openings();
     a_deadline_passes();
@@ -296,6 +324,8 @@ static void alone(void) {
     at_the_limit();
     others_leave_a_step();
     across_cuts();
+    at_each_step();
+    resumed_for_longer();
 }
 
 /* ---- By several threads. ---- */
@@ -389,12 +419,27 @@ static void stalls_follow(void) {
     chanhub_free(hub);
 }
 
+/* Values come while the receiver waits with a deadline, in a hub that cuts at each step. */
+static void they_come_at_each_step(void) {
+    struct caller c;
+    open_cutting();
+    is("made", chanhub_make(hub, 0, 0).port, 1);
+    for (int i = 0; i < 20; i++) {
+        start(&c, 0, 1, FAR_OFF);
+        usleep(1000);
+        is("sent", chanhub_send(hub, 1, 1, chanhub_number(7)).what, CHANHUB_SENT);
+        is("got", (long long)ended(&c).value.number, 7);
+    }
+    chanhub_free(hub);
+}
+
 static void threads(void) {
     they_pass(0);
     they_pass(1);
     none_is_late();
     made_to_pass();
     stalls_follow();
+    they_come_at_each_step();
 }
 
 /* ---- Under load. ---- */

@@ -54,7 +54,20 @@ COUNTED(hub_c_exit, (struct hub *h, uint8_t pid, struct told *told), (h, pid, to
 COUNTED(hub_c_take, (struct hub *h, uint8_t pid, struct told *told), (h, pid, told))
 ANSWERED(uint64_t, hub_c_entries, (struct hub *h), (h))
 ANSWERED(chanhub_counts, hub_c_look, (struct hub *h, uint16_t port), (h, port))
-ANSWERED(struct piece, hub_c_present, (struct hub *h, uint64_t number, uint8_t *place, size_t room), (h, number, place, room))
+
+/* The journal is of one moment: no entry is made between two pieces of it. */
+struct piece __real_hub_c_present(struct hub *h, uint64_t number, uint8_t *place, size_t room);
+struct piece __wrap_hub_c_present(struct hub *h, uint64_t number, uint8_t *place, size_t room);
+struct piece __wrap_hub_c_present(struct hub *h, uint64_t number, uint8_t *place, size_t room) {
+    static uint64_t at_first;
+    come_in();
+    uint64_t made = __real_hub_c_entries(h);
+    if (number == 0) at_first = made;
+    torn += made != at_first;
+    struct piece piece = __real_hub_c_present(h, number, place, room);
+    inside--;
+    return piece;
+}
 
 /* Bytes that tell whose they are, of a length that does too. */
 static chanhub_value value_of(unsigned pid) {

@@ -1,7 +1,7 @@
 /* Looks take no lock but the first, and each is of one moment of the hub.
  *
  *     looks alone            random steps of one thread: each look is what the hub tells then, and only the first at a port asks it
- *     looks inside           a look ends while another thread is in the hub
+ *     looks inside           a look ends while another thread is in the hub; first looks beside each other
  *     looks threads FOLDER   threads that look while others call: writes FOLDER/journal, and a line for each look to FOLDER/looks
  *
  * Linked with the library's sources, and with --wrap for hub_c_look and hub_c_recv.
@@ -109,8 +109,21 @@ static void run(unsigned seed) {
     chanhub_free(hub);
 }
 
+/* The last port, and one that is full, of the greatest capacity. */
+static void at_the_limits(void) {
+    enum { LAST_PORT = 64, MOST_CAP = 1024 };
+    is("opened", chanhub_open(&hub, 2, 1, LIMIT), 0);
+    for (uint32_t port = 1; port <= LAST_PORT; port++) chanhub_make(hub, 0, port == LAST_PORT ? MOST_CAP : 0);
+    is_counts("made", chanhub_look(hub, LAST_PORT), (chanhub_counts){ .made = true, .cap = MOST_CAP });
+    for (int i = 0; i < MOST_CAP; i++) chanhub_send(hub, 0, LAST_PORT, chanhub_number(1));
+    is_counts("full", chanhub_look(hub, LAST_PORT), (chanhub_counts){ .made = true, .cap = MOST_CAP, .sent = MOST_CAP });
+    is_counts("no port", chanhub_look(hub, LAST_PORT + 1), (chanhub_counts){ 0 });
+    chanhub_free(hub);
+}
+
 static void alone(void) {
     for (unsigned seed = 0; seed < RUNS; seed++) run(seed);
+    at_the_limits();
 }
 
 /* ---- While a thread is inside. ---- */
@@ -138,6 +151,28 @@ static void inside(void) {
     waits_inside = false;
     is_counts("a look behind the step", chanhub_look(hub, 1), after);
     chanhub_free(hub);
+}
+
+/* Two threads make the first look at each port beside each other. */
+static void *looks_at_each(void *start) {
+    pthread_barrier_wait(start);
+    for (unsigned port = 1; port <= 64; port++) is("its capacity", chanhub_look(hub, port).cap, port);
+    return NULL;
+}
+
+static void first_looks(void) {
+    enum { ROUNDS = 20 };
+    pthread_barrier_t start;
+    pthread_barrier_init(&start, NULL, 2);
+    for (int i = 0; i < ROUNDS; i++) {
+        pthread_t threads[2];
+        is("opened", chanhub_open(&hub, 2, 1, LIMIT), 0);
+        for (uint32_t port = 1; port <= 64; port++) chanhub_make(hub, 0, port);
+        for (int j = 0; j < 2; j++) if (pthread_create(&threads[j], NULL, looks_at_each, &start)) exit(2);
+        for (int j = 0; j < 2; j++) pthread_join(threads[j], NULL);
+        chanhub_free(hub);
+    }
+    pthread_barrier_destroy(&start);
 }
 
 /* ---- Threads. ---- */
@@ -267,7 +302,7 @@ static void threads(const char *folder) {
 int main(int argc, char **argv) {
     alarm(SECONDS);
     if (argc == 2 && !strcmp(argv[1], "alone")) alone();
-    else if (argc == 2 && !strcmp(argv[1], "inside")) inside();
+    else if (argc == 2 && !strcmp(argv[1], "inside")) inside(), first_looks();
     else if (argc == 3 && !strcmp(argv[1], "threads")) threads(argv[2]);
     else return 2;
     return tally(argv[1]);

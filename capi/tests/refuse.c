@@ -141,6 +141,52 @@ static int run_endless(long allowed) {
     return given.count != CHAPTERS || !given.are_right || given.lost > refused;
 }
 
+/* A hub with a clock that is not opened hands out nothing. */
+static int run_timed_endless(long allowed) {
+    chanhub *hub;
+    chanhub_options options = { .procs = 2, .keep = 10, .chapters = get, .clock = true };
+    memset(&given, 0, sizeof given);
+    refused = 0;
+    left = allowed;
+    int why = chanhub_open_with(&hub, &options);
+    if (why && (why != 3 || hub || given.count || chanhub_open_with(&hub, &options))) return 1;
+    chanhub_free(hub);
+    return given.count != 1;
+}
+
+/* A long chapter is handed out whole or not at all. */
+static struct { int count, lost, cut_off; } long_ones;
+
+static void get_long(void *last, const char *text, size_t length) {
+    size_t size = strlen(last);
+    long_ones.count++;
+    long_ones.lost += !text;
+    long_ones.cut_off += text && (length < size || memcmp(text + length - size, last, size) != 0);
+}
+
+static int run_long(long allowed) {
+    enum { VALUES = 1000 };
+    chanhub *hub;
+    memset(&long_ones, 0, sizeof long_ones);
+    refused = 0;
+    left = -1;
+    if (chanhub_open_endless(&hub, 2, 1, 10000, get_long, "0 send 1 999\n0 recv 1\n")) return 1;
+    MADE(chanhub_make(hub, 0, 1), CHANHUB_MADE);
+    for (uint64_t i = 0; i < VALUES; i++) {
+        MADE(chanhub_send(hub, 0, 1, chanhub_number(i)), CHANHUB_SENT);
+        MADE(chanhub_recv(hub, 0, 1), CHANHUB_GOT);
+    }
+    if (!chanhub_cut(hub)) return 1;
+    MADE(chanhub_send(hub, 0, 1, chanhub_number(1)), CHANHUB_SENT);
+    left = allowed;
+    if (!chanhub_cut(hub) && !chanhub_cut(hub)) return 1;
+    left = -1;
+    bool is_wrong = long_ones.count != 1 || long_ones.cut_off || long_ones.lost > refused;
+    given.lost = long_ones.lost;
+    chanhub_free(hub);
+    return is_wrong;
+}
+
 /* How often this stands in the journal; -1 where there is no memory for that. */
 static int in_journal(chanhub *hub, const char *wanted) {
     size_t length, size = strlen(wanted);
@@ -238,6 +284,8 @@ int main(void) {
     int failed = refuse_each("a hub", run);
     failed |= refuse_each("a hub that follows a journal", run_following);
     failed |= refuse_each("a hub that never ends", run_endless);
+    failed |= refuse_each("one with a clock", run_timed_endless);
+    failed |= refuse_each("a long chapter", run_long);
     failed |= record_timed() || refuse_each("a hub that follows a journal with a clock", run_timed_following);
     return refuse_each("a hub with a clock", run_timed) || failed;
 }

@@ -1,17 +1,14 @@
-/* A writer of chapters to files. It allocates nothing, so it works on when memory is short. */
-#define _POSIX_C_SOURCE 200809L /* for strerror_r */
-#include "chanhub.h"
+/* A writer of whole files, and of chapters to files. It allocates nothing, so it works on when memory is short. */
+#include "hub.h"
 
 #include <errno.h>
 #include <fcntl.h>
 #include <inttypes.h>
-#include <limits.h>
 #include <stdio.h>
 #include <string.h>
 #include <unistd.h>
 
-/* A path that does not fit in this is too long for the system too. */
-enum { PATH_ROOM = PATH_MAX + 32, WORDS_ROOM = 256 };
+enum { WORDS_ROOM = 256 };
 
 /* Writes all of it. Returns 0, or the errno of what went wrong, as do the next two. */
 static int write_all(int file, const char *text, size_t length) {
@@ -34,7 +31,7 @@ static int write_file(const char *path, const char *text, size_t length) {
 }
 
 /* Writes under another name first, so that a file of this name is whole. */
-static int write_whole(const char *path, const char *text, size_t length) {
+int write_whole(const char *path, const char *text, size_t length) {
     char part[PATH_ROOM + sizeof ".tmp"];
     snprintf(part, sizeof part, "%s.tmp", path);
     int error = write_file(part, text, length);
@@ -44,7 +41,7 @@ static int write_whole(const char *path, const char *text, size_t length) {
 }
 
 /* Says why a file could not be written. */
-static void tell_error(const char *path, int error) {
+void tell_error(const char *path, int error) {
     char words[WORDS_ROOM];
     if (strerror_r(error, words, sizeof words) != 0) snprintf(words, sizeof words, "error %d", error);
     fprintf(stderr, "chanhub: %s: %s\n", path, words);

@@ -11,8 +11,10 @@
  *     journals.c     the texts of journals
  *     chapters.c     the chapters of a hub that never ends
  *     looks.c        looks, which take no lock
+ *     watch.c        the watch over hubs in which nothing moves
+ *     files.c        whole files
  *
- * heap.c and recorded.c have headers of their own. files.c and texts.c stand over chanhub.h alone.
+ * heap.c and recorded.c have headers of their own. texts.c stands over chanhub.h alone.
  *
  * One lock orders all that is asked of a hub. The comment of a function says whether its caller holds it, where that matters;
  * that of a function which other files call stands where it is defined. Each answer is picked up under the lock, so what the
@@ -27,6 +29,7 @@
 #include "hub_c.h"
 #include "recorded.h"
 
+#include <limits.h>
 #include <pthread.h>
 #include <stdatomic.h>
 #include <time.h>
@@ -38,6 +41,7 @@ enum {
     MOST_CASES = 16,
     GREATEST_PID = 255,
     GREATEST_PORT = 65535,
+    PATH_ROOM = PATH_MAX + 32, /* a path that does not fit in this is too long for the system too */
     BILLION = 1000000000
 };
 
@@ -68,6 +72,15 @@ struct shown {
     uint32_t cap;                 /* written before the counts are first shown, and then only read */
 };
 
+/* What the watch over hubs knows of this one. */
+struct watch {
+    chanhub *next;    /* the one that was opened next */
+    uint64_t entries; /* how many there were when it looked last */
+    uint64_t since;   /* when it first saw so many, while a call waits */
+    unsigned file;    /* the number of the file that has its journal, from 1; 0 if there is none yet */
+    bool is_told;     /* whether that was written since */
+};
+
 /* A set of processes is a number with a bit for each, the lowest for process 0. One of ports has the lowest for port 1. */
 struct chanhub {
     pthread_mutex_t lock;
@@ -95,6 +108,7 @@ struct chanhub {
     pthread_cond_t handed;      /* a chapter was taken, or was handed out */
     struct place places[MOST_PROCS];
     struct shown shown[MOST_PORTS]; /* from port 1 on */
+    struct watch watch;
     struct hub hub;
 };
 
@@ -176,6 +190,14 @@ void hand_out_rest(chanhub *h);
 
 /* looks.c */
 void show(chanhub *h, unsigned port);
+
+/* watch.c */
+void watch_hub(chanhub *h);
+void unwatch_hub(chanhub *h);
+
+/* files.c */
+int write_whole(const char *path, const char *text, size_t length);
+void tell_error(const char *path, int error);
 
 #pragma GCC visibility pop
 

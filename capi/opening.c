@@ -37,7 +37,7 @@ static int opened(chanhub **hub, chanhub *h, int refusal) {
 static uint8_t edition_of(unsigned edition) { return edition > GREATEST_EDITION ? 0 : (uint8_t)edition; }
 static uint8_t procs_of(unsigned procs) { return procs > GREATEST_PID ? GREATEST_PID : (uint8_t)procs; }
 
-int chanhub_open(chanhub **hub, unsigned edition, unsigned procs, uint32_t limit) {
+static int open_limited(chanhub **hub, unsigned edition, unsigned procs, uint32_t limit) {
     *hub = NULL;
     chanhub *h = calloc(1, sizeof *h);
     if (!h) return 3;
@@ -45,8 +45,7 @@ int chanhub_open(chanhub **hub, unsigned edition, unsigned procs, uint32_t limit
     return opened(hub, h, hub_c_open(&h->hub, edition_of(edition), procs_of(procs), limit));
 }
 
-int chanhub_open_endless(chanhub **hub, unsigned edition, unsigned procs, uint32_t keep, chanhub_chapters *chapters,
-                         void *pointer) {
+static int open_endless(chanhub **hub, unsigned edition, unsigned procs, uint32_t keep, chanhub_chapters *chapters, void *pointer) {
     *hub = NULL;
     chanhub *h = calloc(1, sizeof *h);
     if (!h) return 3;
@@ -110,8 +109,7 @@ static int open_following(chanhub **hub, const chanhub_options *o) {
     return why;
 }
 
-int chanhub_open_with(chanhub **hub, const chanhub_options *options) {
-    const chanhub_options *o = options;
+static int open_as(chanhub **hub, const chanhub_options *o) {
     unsigned edition = o->edition ? o->edition : 2, procs = o->procs;
     *hub = NULL;
     if (o->journal_line) *o->journal_line = 0;
@@ -120,13 +118,33 @@ int chanhub_open_with(chanhub **hub, const chanhub_options *options) {
     if (o->clock && edition == 1) return 4;
     if (o->keep ? o->limit != 0 : o->chapters != NULL) return 2;
     procs += o->clock;
-    int why = o->keep ? chanhub_open_endless(hub, edition, procs, o->keep, o->chapters, o->pointer)
-                      : chanhub_open(hub, edition, procs, o->limit ? o->limit : MOST_STEPS);
+    int why = o->keep ? open_endless(hub, edition, procs, o->keep, o->chapters, o->pointer)
+                      : open_limited(hub, edition, procs, o->limit ? o->limit : MOST_STEPS);
     return why || !o->clock ? why : start_clock(hub, (uint8_t)o->procs);
+}
+
+/* The hub may be watched from now on, if it was opened. */
+static int watched(chanhub **hub, int refusal) {
+    if (!refusal) watch_hub(*hub);
+    return refusal;
+}
+
+int chanhub_open(chanhub **hub, unsigned edition, unsigned procs, uint32_t limit) {
+    return watched(hub, open_limited(hub, edition, procs, limit));
+}
+
+int chanhub_open_endless(chanhub **hub, unsigned edition, unsigned procs, uint32_t keep, chanhub_chapters *chapters,
+                         void *pointer) {
+    return watched(hub, open_endless(hub, edition, procs, keep, chapters, pointer));
+}
+
+int chanhub_open_with(chanhub **hub, const chanhub_options *options) {
+    return watched(hub, open_as(hub, options));
 }
 
 void chanhub_free(chanhub *h) {
     if (!h) return;
+    unwatch_hub(h);
     if (h->chapters) hand_out_rest(h);
     hub_c_end(&h->hub);
     for (int pid = 0; pid < MOST_PROCS; pid++) pthread_cond_destroy(&h->places[pid].answered);

@@ -20,8 +20,8 @@ cxx=${CXX:-c++}
 cxxflags='-std=c++17 -O2 -Wall -Wextra -Werror -I.'
 by_cxx=
 flags="-std=c11 -D_DEFAULT_SOURCE -O2 -Wall -Wextra -Werror -I."
-# what tests link with the names within the library, to wrap them; files.c and texts.c, which need none of it, are left out
-hub='calls.c chapters.c clock.c deadlines.c following.c heap.c journals.c looks.c opening.c recorded.c waits.c'
+# what tests link with the names within the library, to wrap them; texts.c, which needs none of it, is left out
+hub='calls.c chapters.c clock.c deadlines.c files.c following.c heap.c journals.c looks.c opening.c recorded.c waits.c watch.c'
 proved="../crates/hub_c/out/libhub_c.a $(dirname "$(rt doc)")/c/liblibc_c.a"
 threads='cancelled second closed stalled handed'
 handing='busy parked woken full cancelled slow inside'
@@ -74,6 +74,20 @@ soaks() {
 # writes_files: whether chapters are written to files.
 writes_files() {
     mkdir -p "$work/written" && "$work/files" "$work/written"
+}
+
+# is_watched NAME: whether the journals of hubs that stand still are written, each time with a line that says so.
+is_watched() {
+    CHANHUB_WATCH="1:$work/$1-hung" "$work/$1" "$work/$1-hung" 2> "$work/said" && cat "$work/said" &&
+        [ "$(grep -c '^chanhub: nothing has moved in a hub for 1 s: its journal is in' "$work/said")" = 3 ]
+}
+
+# refuses_watches: whether each watch that is none is told, once, and the program goes on.
+refuses_watches() {
+    for watch in soon 0:hung 1: 1 -1:hung 1000000001:hung 99999999999999999999:hung; do
+        CHANHUB_WATCH=$watch "$work/pool" > "$work/printed" 2> "$work/said" && cmp "$work/printed" "$work/sum" &&
+            [ "$(cat "$work/said")" = "chanhub: CHANHUB_WATCH=$watch: there is no watch; SECONDS:FILE asks for one" ] || return
+    done
 }
 
 # interrupt COMMAND..: interrupts the command after a second, or later where it had not yet begun to wait for that: then it was ended by it,
@@ -195,13 +209,13 @@ printf 'stalled: 0 recv 2\nstalled: 1 recv 1\n' > "$work/stalled"
 printf 'got 5\nneither\nsent\n' > "$work/choice-lines"
 
 for test in calls conveniences crew threads memory endless handing chapters files soak steps deadlines following followed_clock \
-    followed_runs; do
+    followed_runs watch; do
     check "$test builds" "$cc" $flags "tests/$test.c" out/libchanhub.a -lpthread -o "$work/$test"
 done
 check 'resume builds' "$cc" $flags -Wl,--wrap=clock_gettime tests/resume.c out/libchanhub.a -lpthread -o "$work/resume"
 check 'each call' "$work/calls"
 check 'calls that never wait, texts, and the steps that are left' "$work/conveniences"
-check 'a million steps in little memory' "$work/memory"
+check 'steps in the memory that the header tells' "$work/memory"
 for test in $threads; do
     check "threads: $test" "$work/threads" "$test"
 done
@@ -245,6 +259,7 @@ for test in $handing; do
     check "chapters that are handed out: $test" "$work/handing" "$test"
 done
 check 'chapters in files' writes_files
+check 'hubs that stand still' is_watched watch
 check 'chapters of 200 random runs' chapters chapters 200
 check '16 threads without an end' soaks soak 3
 [ -e "$tool" ] || skip 'chains of chapters' "no $tool"
@@ -257,6 +272,7 @@ for example in pool deadlock choice forever timeout; do
     check "$example.c builds" "$cc" $flags "examples/$example.c" out/libchanhub.a -lpthread -o "$work/$example"
 done
 check 'pool.c' prints "$work/sum" "$work/pool"
+check 'watches that are none' refuses_watches
 check 'choice.c' chooses "$work/choice"
 check 'timeout.c' prints "$work/times" "$work/timeout"
 check 'forever.c' is_interrupted
@@ -291,9 +307,9 @@ if echo 'int main(void) { return 0; }' | "$cc" -fsanitize=thread -x c - -o "$wor
     sanitize="$flags -g -fsanitize=thread"
     # The library once, for all of them.
     sanitized="$work/sanitized.o $proved -lpthread"
-    check 'the library builds for the thread sanitizer' "$cc" $sanitize -r -nostdlib $hub files.c texts.c \
+    check 'the library builds for the thread sanitizer' "$cc" $sanitize -r -nostdlib $hub texts.c \
         -o "$work/sanitized.o"
-    for test in crew threads handing chapters soak deadlines following followed_runs; do
+    for test in crew threads handing chapters soak deadlines following followed_runs watch; do
         check "$test builds for the thread sanitizer" "$cc" $sanitize "tests/$test.c" $sanitized -o "$work/sanitized-$test"
     done
     check 'resume builds for the thread sanitizer' "$cc" $sanitize -Wl,--wrap=clock_gettime tests/resume.c $sanitized -o "$work/sanitized-resume"
@@ -309,6 +325,7 @@ if echo 'int main(void) { return 0; }' | "$cc" -fsanitize=thread -x c - -o "$wor
     for test in alone threads; do
         check "begun and resumed under the thread sanitizer: $test" "$work/sanitized-resume" "$test"
     done
+    check 'hubs that stand still under the thread sanitizer' is_watched sanitized-watch
     check 'deadlines under the thread sanitizer: threads' "$work/sanitized-deadlines" threads
     check 'deadlines under the thread sanitizer: chapters' deadlines sanitized-deadlines chapters
     check 'a journal is followed under the thread sanitizer: alone' "$work/sanitized-following" alone

@@ -7,7 +7,6 @@ use crate::value::Value;
 use std::cell::Cell;
 use std::fmt;
 use std::iter::FusedIterator;
-use std::marker::PhantomData;
 use std::mem;
 use std::os::raw::{c_char, c_int, c_uint};
 use std::panic::RefUnwindSafe;
@@ -234,8 +233,8 @@ pub struct Hub(Arc<Raw>);
 pub struct Seat {
     hub: Hub,
     pid: u8,
-    /// Two threads could use a seat that is `Sync`.
-    _of_one_thread: PhantomData<Cell<()>>,
+    /// How many values the process has given to tables. Being a `Cell`, it keeps two threads from using a seat at the same time.
+    values: Cell<u64>,
 }
 
 // A seat has no state that a panic could leave broken.
@@ -495,7 +494,7 @@ impl Hub {
             .map(|pid| Seat {
                 hub: hub.clone(),
                 pid,
-                _of_one_thread: PhantomData,
+                values: Cell::new(0),
             })
             .collect();
         (hub, seats)
@@ -683,6 +682,14 @@ impl Seat {
 
     pub(crate) fn hub(&self) -> &Hub {
         &self.hub
+    }
+
+    /// Returns the number of the next value that the process gives to a table. It depends on nothing but the process and its own count,
+    /// so a run that is followed sends the same numbers.
+    pub(crate) fn next_number(&self) -> u64 {
+        let count = self.values.get() + 1;
+        self.values.set(count);
+        100 * count + u64::from(self.pid)
     }
 
     /// Makes a call as the process.

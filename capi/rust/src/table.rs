@@ -1,7 +1,8 @@
 //! The table of values that are passed by number.
 
+use crate::hub::Seat;
 use crate::value::Value;
-use std::collections::HashMap;
+use std::collections::hash_map::{Entry, HashMap};
 use std::sync::{Mutex, MutexGuard, PoisonError};
 
 /// Holds values of any type, so that channels can pass them by number.
@@ -23,29 +24,21 @@ use std::sync::{Mutex, MutexGuard, PoisonError};
 /// let (sender, receiver) = seat.channel(1).unwrap();
 /// let table = Table::new(); // to share it between threads, put it into an `Arc`
 ///
-/// sender.send(&mut seat, table.put(String::from("a long text"))).unwrap();
+/// let number = table.put(&seat, String::from("a long text"));
+/// sender.send(&mut seat, number).unwrap();
 /// let number = receiver.recv(&mut seat).unwrap();
 /// assert_eq!(table.take(number).as_deref(), Some("a long text"));
 /// assert_eq!(table.take(number), None); // each value is taken once
 /// ```
 #[derive(Debug)]
 pub struct Table<T> {
-    kept: Mutex<Kept<T>>,
-}
-
-#[derive(Debug)]
-struct Kept<T> {
-    next: u64,
-    things: HashMap<u64, T>,
+    things: Mutex<HashMap<u64, T>>,
 }
 
 impl<T> Default for Table<T> {
     fn default() -> Table<T> {
         Table {
-            kept: Mutex::new(Kept {
-                next: 0,
-                things: HashMap::new(),
-            }),
+            things: Mutex::default(),
         }
     }
 }
@@ -56,21 +49,28 @@ impl<T> Table<T> {
         Table::default()
     }
 
-    fn lock(&self) -> MutexGuard<'_, Kept<T>> {
-        self.kept.lock().unwrap_or_else(PoisonError::into_inner)
+    fn lock(&self) -> MutexGuard<'_, HashMap<u64, T>> {
+        self.things.lock().unwrap_or_else(PoisonError::into_inner)
     }
 
-    /// Stores a value and returns its number, as a [`Value`] that can be sent.
-    pub fn put(&self, thing: T) -> Value {
-        let mut kept = self.lock();
-        let number = kept.next;
-        kept.next += 1;
-        kept.things.insert(number, thing);
-        Value::Number(number)
+    /// Stores a value and returns its number, as a [`Value`] that can be sent. The seat is that of the process which sends it.
+    ///
+    /// The `k`-th value, from 1, that process `p` of a hub puts into tables or gives to [`typed`](crate::typed) channels has the number
+    /// `100 * k + p`. So in a hub that [follows](crate::Hub::follow) a journal, a process sends the numbers that it sent before. A
+    /// number is left out if the table has a value of another hub by it.
+    pub fn put(&self, seat: &Seat, thing: T) -> Value {
+        let mut things = self.lock();
+        loop {
+            let number = seat.next_number();
+            if let Entry::Vacant(place) = things.entry(number) {
+                place.insert(thing);
+                return Value::Number(number);
+            }
+        }
     }
 
     /// Removes and returns the value with this number. Returns `None` if the table has none.
     pub fn take(&self, value: Value) -> Option<T> {
-        self.lock().things.remove(&value.number()?)
+        self.lock().remove(&value.number()?)
     }
 }

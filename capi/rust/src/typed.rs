@@ -24,10 +24,10 @@
 //!
 //! # Values
 //!
-//! The hub carries a number for each value, which the journal shows: the first value that the channel is given has number 0, and so
-//! on. The value itself waits in a [`Table`] of the channel until whoever receives the number takes it out. A value that nobody
-//! receives is dropped with the last end of its channel. The ends keep the hub, so this is never later than the hub is freed. A
-//! value that is not sent comes back in the error.
+//! The hub carries a number for each value, which the journal shows: 102 is the first value of process 2, 202 its second, and so on
+//! ([`Table::put`]), each one that is offered. The value itself waits in a [`Table`] of the channel until whoever receives the number
+//! takes it out. A value that nobody receives is dropped with the last end of its channel. The ends keep the hub, so this is never
+//! later than the hub is freed. A value that is not sent comes back in the error.
 //!
 //! # Closing
 //!
@@ -449,7 +449,7 @@ impl<'a, T> BoundSender<'a, T> {
         if let Err(fault) = channel.is_for(self.seat) {
             return Err((value, fault.into()));
         }
-        let number = channel.table.put(value);
+        let number = channel.table.put(self.seat, value);
         match call(number) {
             Ok(true) => Ok(None),
             Ok(false) => Ok(Some(channel.take(number))),

@@ -249,12 +249,22 @@ fn things_go_by_number() {
     let (_hub, mut seat) = one_seat(Edition::One);
     let (sender, receiver) = seat.channel(1).unwrap();
     let table = Table::new();
-    sender
-        .send(&mut seat, table.put(String::from("a thing")))
-        .unwrap();
+    let number = table.put(&seat, String::from("a thing"));
+    sender.send(&mut seat, number).unwrap();
     let value = receiver.recv(&mut seat).unwrap();
     assert_eq!(table.take(value).as_deref(), Some("a thing"));
     assert_eq!(table.take(value), None);
+}
+
+#[test]
+fn a_table_keeps_the_values_of_several_hubs() {
+    let seats = [one_seat(Edition::One).1, one_seat(Edition::One).1];
+    let table = Table::new();
+    let numbers = [0, 1, 0, 1].map(|of| table.put(&seats[of], of));
+    assert_eq!(
+        numbers.map(|number| table.take(number)),
+        [0, 1, 0, 1].map(Some)
+    );
 }
 
 #[test]

@@ -151,7 +151,7 @@ fn what_the_crate_gives_can_be_shown() {
     let (_, receiver) = seat.channel(0).unwrap();
     assert!(format!("{:?}", receiver.drain(&mut seat)).starts_with("Drain { receiver: Receiver"));
     let table = Table::new();
-    table.put("a thing");
+    table.put(&seat, "a thing");
     assert!(format!("{table:?}").contains("\"a thing\""));
     // So that a result with a hub in it can be unwrapped for its error.
     assert_eq!(Hub::open(Edition::One, 0, 1).unwrap_err(), OpenError::Procs);

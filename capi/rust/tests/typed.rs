@@ -57,7 +57,32 @@ fn values_of_any_type_come_in_order() {
     }
     assert_eq!(
         hub.journal().unwrap(),
-        "chanhub journal 2\nprocs 1\n0 make 3\n0 send 1 0\n0 send 1 1\n0 send 1 2\n0 recv 1\n0 recv 1\n0 recv 1\n"
+        "chanhub journal 2\nprocs 1\n0 make 3\n0 send 1 100\n0 send 1 200\n0 send 1 300\n0 recv 1\n0 recv 1\n0 recv 1\n"
+    );
+}
+
+#[test]
+fn a_number_has_the_process_and_its_count() {
+    let (hub, [zero, one]) = seats();
+    let (first, _from_first) = channel(&zero, 2).unwrap();
+    let (second, _from_second) = channel(&zero, 2).unwrap();
+    let (first, other) = (first.bind(&one), second.clone());
+    first.send("a").unwrap();
+    first.send("b").unwrap();
+    assert_eq!(first.try_send("c"), Err(TrySendError::Full("c")));
+    second.bind(&one).send("d").unwrap();
+    other.bind(&zero).send("e").unwrap();
+    let journal = hub.journal().unwrap();
+    let sends: Vec<_> = journal.lines().skip(4).take(5).collect();
+    assert_eq!(
+        sends,
+        [
+            "1 send 1 101",
+            "1 send 1 201",
+            "1 select 0 s1:301 default",
+            "1 send 2 401",
+            "0 send 2 100"
+        ]
     );
 }
 
@@ -469,7 +494,7 @@ fn a_send_that_is_cancelled_gives_its_value_back() {
     let (hub, [waits, mut cancels]) = seats();
     let (sender, _receiver) = channel(&waits, 0).unwrap();
     let thread = thread::spawn(move || sender.bind(&waits).send(String::from("whole")));
-    until_it_stands(&hub, "0 send 1 0");
+    until_it_stands(&hub, "0 send 1 100");
     cancels.cancel(0).unwrap();
     let refused = thread.join().unwrap().unwrap_err();
     assert_eq!(

@@ -65,8 +65,9 @@ enum Case<'a> {
 
 /// A value that a case offers. While the hub has its number, it is in the table of the channel.
 trait Offer {
-    /// Puts the value into the table, and the case that sends its number into the place. Without a value the place stays as it is.
-    fn put(&mut self, place: &mut sys::Case);
+    /// Puts the value into the table, as one of this seat's process, and the case that sends its number into the place. Without a
+    /// value the place stays as it is.
+    fn put(&mut self, seat: &Seat, place: &mut sys::Case);
 
     /// Takes the value out of the table again, because it was not sent.
     fn take_back(&mut self);
@@ -79,8 +80,9 @@ struct Offered<'a, T> {
 }
 
 impl<T> Offer for Offered<'_, T> {
-    fn put(&mut self, place: &mut sys::Case) {
-        self.number = self.value.take().map(|value| self.channel.table.put(value));
+    fn put(&mut self, seat: &Seat, place: &mut sys::Case) {
+        let table = &self.channel.table;
+        self.number = self.value.take().map(|value| table.put(seat, value));
         if let Some(number) = self.number {
             *place = send_case(self.channel.port, number);
         }
@@ -186,7 +188,7 @@ impl<'a> Select<'a> {
         }
         with_places(self.cases.len(), |cases| {
             for (place, case) in cases.iter_mut().zip(&mut self.cases) {
-                case.put(place);
+                case.put(self.seat, place);
             }
             let word = self.word.unwrap_or_else(random_word);
             let told = call(self.seat, cases, word);
@@ -218,10 +220,10 @@ impl<'a> Select<'a> {
 }
 
 impl Case<'_> {
-    fn put(&mut self, place: &mut sys::Case) {
+    fn put(&mut self, seat: &Seat, place: &mut sys::Case) {
         match self {
             Case::Recv(port) => place.port = *port,
-            Case::Send(offer) => offer.put(place),
+            Case::Send(offer) => offer.put(seat, place),
         }
     }
 

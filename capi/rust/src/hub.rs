@@ -258,7 +258,7 @@ impl fmt::Debug for Seat {
 }
 
 /// The state of a channel, as [`Hub::look_at`] returns it.
-#[derive(Clone, Copy, Debug, PartialEq, Eq)]
+#[derive(Clone, Copy, Debug, Default, PartialEq, Eq)]
 pub struct Counts {
     /// The capacity of the buffer.
     pub cap: u32,
@@ -498,6 +498,14 @@ impl Hub {
             })
             .collect();
         (hub, seats)
+    }
+
+    /// Returns how many more steps other than exits the hub makes, by all its processes, before it refuses them with
+    /// [`Fault::JOURNAL_FULL`]. Returns `None` if the hub never ends. This needs no seat.
+    pub fn steps_left(&self) -> Option<u64> {
+        // SAFETY: the hub is open as long as `self.0` is.
+        let left = unsafe { sys::chanhub_steps_left(self.0.at) };
+        (!self.0.is_endless).then_some(left)
     }
 
     pub(crate) fn look(&self, port: u16) -> Option<Counts> {

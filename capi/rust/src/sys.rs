@@ -156,6 +156,7 @@ extern "C" {
     pub fn chanhub_cancel(hub: *mut Chanhub, pid: c_uint, other: c_uint) -> Told;
     pub fn chanhub_cut(hub: *mut Chanhub) -> bool;
     pub fn chanhub_look(hub: *mut Chanhub, port: c_uint) -> Counts;
+    pub fn chanhub_steps_left(hub: *mut Chanhub) -> u64;
     pub fn chanhub_journal(hub: *mut Chanhub, length: *mut usize) -> *mut c_char;
     pub fn chanhub_before(hub: *mut Chanhub, length: *mut usize) -> *mut c_char;
     pub fn chanhub_free_text(text: *mut c_char);

@@ -80,20 +80,51 @@ pub use select::{Select, SelectTimeoutError, SelectedOperation};
 /// Returns the same errors as [`Seat::channel`].
 pub fn channel<T>(seat: &Seat, cap: u32) -> Result<(Sender<T>, Receiver<T>), Fault> {
     seat.hub().watch();
-    let channel = Arc::new(Channel {
-        port: seat.make(cap)?,
-        hub: seat.hub().clone(),
-        table: Table::new(),
-        senders: AtomicUsize::new(1),
-        receivers: AtomicUsize::new(1),
-        stays_open: AtomicBool::new(false),
-        is_closed: AtomicBool::new(false),
-    });
+    let channel = Arc::new(Channel::at(seat.make(cap)?, seat));
     let sender = Sender {
         channel: Arc::clone(&channel),
         pid: None,
     };
     Ok((sender, Receiver { channel, pid: None }))
+}
+
+/// Returns a receiver from port 0, which never receives: its channel has no sender, and stays open. Use it for an arm of a select that
+/// is switched off. The seat is that of any process of the hub.
+///
+/// # Examples
+///
+/// ```
+/// use chanhub::{select, typed, Ended, Hub};
+///
+/// # let (_hub, mut seats) = Hub::builder(1).open().unwrap();
+/// # let seat = seats.remove(0);
+/// # let (words, from_words) = typed::channel::<String>(&seat, 1)?;
+/// # let (numbers, from_numbers) = typed::channel::<u64>(&seat, 2)?;
+/// # let numbers = numbers.bind(&seat);
+/// # words.bind(&seat).send("a".to_string())?;
+/// # (1..3).try_for_each(|number| numbers.send(number))?;
+/// let (mut words, numbers) = (from_words.bind(&seat), from_numbers.bind(&seat));
+/// let mut came = Vec::new();
+/// while came.len() < 3 {
+///     select! {
+///         recv(words) -> word => match word {
+///             Ok(word) => came.push(word),
+///             Err(_) => words = typed::never(&seat).bind(&seat), // closed and empty: the arm is off
+///         },
+///         recv(numbers) -> number => came.push(number?.to_string()),
+///     }?;
+/// }
+/// # came.sort();
+/// # assert_eq!(came, ["1", "2", "a"]);
+/// # Ok::<(), Ended>(())
+/// ```
+pub fn never<T>(seat: &Seat) -> Receiver<T> {
+    let channel = Channel::at(0, seat);
+    channel.stays_open.store(true, Ordering::Relaxed);
+    Receiver {
+        channel: Arc::new(channel),
+        pid: None,
+    }
 }
 
 /// What the ends of a channel share.
@@ -110,8 +141,21 @@ struct Channel<T> {
 }
 
 impl<T> Channel<T> {
+    /// Returns the channel of this port, with one sender and one receiver. The seat is one of its hub.
+    fn at(port: u16, seat: &Seat) -> Channel<T> {
+        Channel {
+            hub: seat.hub().clone(),
+            port,
+            table: Table::new(),
+            senders: AtomicUsize::new(1),
+            receivers: AtomicUsize::new(1),
+            stays_open: AtomicBool::new(false),
+            is_closed: AtomicBool::new(false),
+        }
+    }
+
     fn counts(&self) -> Counts {
-        self.hub.look(self.port).expect("the port was made")
+        self.hub.look(self.port).unwrap_or_default() // port 0 was not made
     }
 
     fn len(&self) -> usize {

@@ -1,7 +1,8 @@
 //! What the crate's calls give.
 
 use chanhub::{
-    Case, Counts, Edition, Ended, Fault, Hub, OpenError, Seat, Selected, Sender, Table, Value,
+    Case, Chapters, Counts, Edition, Ended, Fault, Hub, OpenError, Seat, Selected, Sender, Table,
+    Value,
 };
 use std::thread;
 use std::time::Duration;
@@ -225,6 +226,21 @@ fn a_call_that_waits_is_cancelled() {
     let thread = thread::spawn(move || receiver.recv(&mut waits));
     cancel_once_it_waits(&mut cancels, 1);
     assert_eq!(thread.join().unwrap(), Err(Ended::Cancelled));
+}
+
+#[test]
+fn a_hub_tells_how_many_steps_are_left() {
+    let (hub, mut seats) = Hub::open(Edition::One, 2, 3).unwrap();
+    assert_eq!(hub.steps_left(), Some(3));
+    seats[0].channel(0).unwrap();
+    drop(seats.pop());
+    assert_eq!(hub.steps_left(), Some(2));
+    seats[0].channel(0).unwrap();
+    seats[0].channel(0).unwrap();
+    assert_eq!(hub.steps_left(), Some(0));
+    assert_eq!(seats[0].channel(0), Err(Fault::JOURNAL_FULL));
+    let (hub, _seats) = Hub::open_endless(Edition::One, 1, 3, Chapters::discard()).unwrap();
+    assert_eq!(hub.steps_left(), None);
 }
 
 #[test]

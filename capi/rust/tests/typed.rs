@@ -1,7 +1,7 @@
 //! Channels that carry values of any type.
 
 use chanhub::typed::{
-    channel, BoundReceiver, Receiver, Select, SendError, Sender, TryRecvError, TrySendError,
+    channel, never, BoundReceiver, Receiver, Select, SendError, Sender, TryRecvError, TrySendError,
 };
 use chanhub::{Chapters, Edition, Ended, Fault, Hub, Seat};
 use std::error::Error;
@@ -609,6 +609,27 @@ fn a_select_makes_one_of_its_cases() {
     let mut select = Select::new(&seat);
     select.recv(&from_words);
     assert_eq!(select.select().unwrap_err(), Ended::Stalled);
+}
+
+#[test]
+fn a_receiver_that_never_receives_waits_in_vain() {
+    let (hub, [seat]) = seats();
+    let (sender, receiver) = channel::<u64>(&seat, 1).unwrap();
+    let (sender, receiver) = (sender.bind(&seat), receiver.bind(&seat));
+    let never = never::<u64>(&seat).bind(&seat);
+    assert_eq!((never.port(), never.len(), never.capacity()), (0, 0, 0));
+    assert_eq!(never.try_recv(), Err(TryRecvError::Empty));
+    assert_eq!(never.recv(), Err(Ended::Stalled));
+    sender.send(7).unwrap();
+    let mut select = Select::new(&seat);
+    select.recv(&never);
+    select.recv(&receiver);
+    let fired = select.select().unwrap();
+    assert_eq!((fired.index(), fired.recv(&receiver)), (1, Ok(7)));
+    let before = hub.journal();
+    drop(never.clone());
+    drop(never);
+    assert_eq!(hub.journal(), before);
 }
 
 #[test]

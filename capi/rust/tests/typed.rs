@@ -5,7 +5,7 @@ use chanhub::typed::{
 };
 use chanhub::{Chapters, Edition, Ended, Fault, Hub, Seat};
 use std::error::Error;
-use std::sync::atomic::{AtomicUsize, Ordering};
+use std::sync::atomic::{AtomicBool, AtomicUsize, Ordering};
 use std::sync::{mpsc, Arc};
 use std::thread;
 use std::time::Duration;
@@ -390,6 +390,36 @@ fn a_sender_that_no_process_is_free_to_close_is_closed_once_a_call_returns() {
     let closes = |journal: String| journal.lines().any(|line| line == "0 close 1");
     assert!(closes(hub.journal().unwrap()) || closes(hub.before().unwrap()));
     drop(calling.join().unwrap());
+}
+
+#[test]
+fn a_sender_that_is_dropped_while_another_is_closed_is_closed_too() {
+    let (runs, is_running) = mpsc::channel();
+    let (may_end, ends) = mpsc::channel::<()>();
+    let is_slow = Arc::new(AtomicBool::new(false));
+    let slow = is_slow.clone();
+    let chapters = Chapters::give_to(move |_| {
+        if slow.swap(false, Ordering::SeqCst) {
+            let _ = runs.send(());
+            let _ = ends.recv();
+        }
+    });
+    let (hub, mut seats) = Hub::open_endless(Edition::Two, 2, 1, chapters).unwrap();
+    let (waits, free) = (seats.pop().unwrap(), seats.pop().unwrap());
+    let (first, _from_first) = channel::<u64>(&free, 0).unwrap();
+    let (second, from_second) = channel::<u64>(&free, 0).unwrap();
+    let waiting = thread::spawn(move || from_second.bind(&waits).recv());
+    until_it_stands(&hub, "1 recv 2");
+    // This close makes a chapter fall out, so process 0 is in it until the closure returns.
+    is_slow.store(true, Ordering::SeqCst);
+    let closing = thread::spawn(move || drop(first));
+    is_running.recv().unwrap();
+    drop(second);
+    drop(may_end);
+    closing.join().unwrap();
+    let journals = [hub.journal().unwrap(), hub.before().unwrap()].concat();
+    assert!(journals.lines().any(|line| line == "0 close 2"));
+    assert_eq!(waiting.join().unwrap(), Err(Ended::Drained(0)));
 }
 
 #[test]

@@ -2,9 +2,9 @@
 
 use chanhub::typed::{self, RecvTimeoutError, Select, SelectTimeoutError, SendTimeoutError};
 use chanhub::{
-    Case, Chapters, Edition, Ended, Fault, Hub, OpenError, Receiver, Seat, Selected, Sender,
+    select, Case, Chapters, Edition, Ended, Fault, Hub, OpenError, Receiver, Seat, Selected, Sender,
 };
-use std::sync::mpsc;
+use std::sync::{mpsc, Arc};
 use std::thread;
 use std::time::{Duration, Instant};
 
@@ -156,6 +156,45 @@ fn errors_say_what_they_are() {
         SendTimeoutError::Ended(7, stalled).to_string(),
         stalled.to_string()
     );
+}
+
+#[test]
+fn no_value_is_left_whatever_its_call_gave() {
+    let value = Arc::new(());
+    for cap in [0, 1, 2].repeat(5) {
+        let (_hub, seats) = timed(4);
+        let (sender, receiver) = typed::channel(&seats[0], cap).unwrap();
+        let start = |seat: Seat| {
+            let (sender, receiver, value) = (sender.clone(), receiver.clone(), value.clone());
+            thread::spawn(move || {
+                let (sender, receiver) = (sender.bind(&seat), receiver.bind(&seat));
+                for count in 0..60 {
+                    let timeout = Duration::from_micros(50 * (count % 5));
+                    match (count + u64::from(seat.pid())) % 6 {
+                        0 => drop(sender.send_timeout(value.clone(), timeout)),
+                        1 => drop(sender.try_send(value.clone())),
+                        2 => drop(sender.send(value.clone())),
+                        3 => drop(receiver.recv_timeout(timeout)),
+                        4 => drop(receiver.try_recv()),
+                        _ => select! {
+                            send(sender, value.clone()) -> _ => (),
+                            recv(receiver) -> _ => (),
+                            default(timeout) => (),
+                        }
+                        .unwrap_or_default(),
+                    }
+                }
+            })
+        };
+        let threads: Vec<_> = seats.into_iter().map(start).collect();
+        drop(sender);
+        for thread in threads {
+            thread.join().unwrap();
+        }
+        assert_eq!(Arc::strong_count(&value), 1 + receiver.len());
+        drop(receiver);
+        assert_eq!(Arc::strong_count(&value), 1);
+    }
 }
 
 #[test]

@@ -9,7 +9,9 @@ import (
 // A Chan is a channel of a hub that carries values of type T. [MakeChan] makes one. Several goroutines may call its methods at the
 // same time, each with the [Seat] of its own process.
 //
-// The hub carries a number for each value, which the journal shows: the first value that a Chan is given has number 0, and so on.
+// The hub carries a number for each value, which the journal shows: 100 * k + pid for the value that process pid gave to the Chans of
+// the hub as its k-th, counted from 1. So the second value of process 3 has number 203. Values that were not sent count too.
+//
 // The value itself waits in the Chan until whoever receives the number takes it out. A value that is not sent does not stay there.
 type Chan[T any] struct {
 	hub      *Hub
@@ -17,7 +19,6 @@ type Chan[T any] struct {
 	capacity int
 
 	lock   sync.Mutex
-	next   uint64
 	values map[uint64]T // those whose numbers are in the hub
 }
 
@@ -60,10 +61,10 @@ func (c *Chan[T]) send(seat *Seat, value T, call func(number Value) error) error
 	if err := c.isFor(seat); err != nil {
 		return err
 	}
-	number := c.put(value)
+	number := c.put(seat, value)
 	err := call(number)
 	if err != nil {
-		c.take(number)
+		c.drop(number)
 	}
 	return err
 }
@@ -129,8 +130,8 @@ func (c *Chan[T]) Close(seat *Seat) error {
 type ChanCase interface {
 	isFor(seat *Seat) error
 	// begin returns the case for the hub. It puts the value of a send into its Chan.
-	begin() Case
-	// end takes the value out again if the case did not fire, and stores the value that it received if it did.
+	begin(seat *Seat) Case
+	// end drops the value again if the case did not fire, and stores the value that it received if it did.
 	end(begun Case, hasFired bool, received Value)
 }
 
@@ -178,7 +179,7 @@ func (s *Seat) selectChan(
 	}
 	begun := make([]Case, len(cases))
 	for i, c := range cases {
-		begun[i] = c.begin()
+		begun[i] = c.begin(s)
 	}
 	index, received, err := choose(randomWord(), begun...)
 	for i, c := range cases {
@@ -192,17 +193,17 @@ func randomWord() uint64 {
 	return new(maphash.Hash).Sum64()
 }
 
-func (c chanSend[T]) begin() Case {
-	return SendCase(c.port, c.put(c.value))
+func (c chanSend[T]) begin(seat *Seat) Case {
+	return SendCase(c.port, c.put(seat, c.value))
 }
 
 func (c chanSend[T]) end(begun Case, hasFired bool, _ Value) {
 	if !hasFired {
-		c.take(begun.value)
+		c.drop(begun.value)
 	}
 }
 
-func (c chanRecv[T]) begin() Case {
+func (c chanRecv[T]) begin(*Seat) Case {
 	return RecvCase(c.port)
 }
 
@@ -224,17 +225,23 @@ func (c *Chan[T]) isFor(seat *Seat) error {
 	return nil
 }
 
-// put keeps a value, and returns its number.
-func (c *Chan[T]) put(value T) Value {
+// put keeps a value that a process is to send, and returns its number.
+func (c *Chan[T]) put(seat *Seat, value T) Value {
+	number := c.hub.numberFor(seat.pid)
 	c.lock.Lock()
 	defer c.lock.Unlock()
-	number := c.next
-	c.next++
 	c.values[number] = value
 	return Number(number)
 }
 
-// take takes out the value with this number.
+// drop drops the value with this number, which was not sent.
+func (c *Chan[T]) drop(number Value) {
+	c.lock.Lock()
+	defer c.lock.Unlock()
+	delete(c.values, number.number)
+}
+
+// take takes out the value with this number, which was received.
 func (c *Chan[T]) take(number Value) T {
 	c.lock.Lock()
 	defer c.lock.Unlock()

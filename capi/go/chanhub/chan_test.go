@@ -4,6 +4,7 @@ import (
 	"errors"
 	"fmt"
 	"os"
+	"regexp"
 	"runtime"
 	"sort"
 	"strings"
@@ -57,9 +58,38 @@ func TestAChanCarriesItsType(t *testing.T) {
 	told(t, "send", c.Send(seat, first), chanhub.ErrClosed)
 	told(t, "close", c.Close(seat), chanhub.FaultAlreadyClosed)
 	journal, _ := hub.Journal()
-	wanted := "chanhub journal 1\nprocs 1\n0 make 2\n0 send 1 0\n0 send 1 1\n0 close 1\n0 recv 1\n0 recv 1\n0 recv 1\n" +
-		"0 send 1 2\n0 close 1\n"
+	wanted := "chanhub journal 1\nprocs 1\n0 make 2\n0 send 1 100\n0 send 1 200\n0 close 1\n0 recv 1\n0 recv 1\n0 recv 1\n" +
+		"0 send 1 300\n0 close 1\n"
 	if string(journal) != wanted {
+		t.Errorf("journal %q", journal)
+	}
+}
+
+// The numbers of a process's values are its own, in all Chans and through each of its seats.
+func TestNumbersOfValues(t *testing.T) {
+	hub := open(t, chanhub.Edition2, 3, 100)
+	two := hub.Seat(2)
+	a, b := makeChan[string](t, two, 1), makeChan[int](t, two, 9)
+	sent, err := a.TrySend(two, "102")
+	told(t, "room", err, nil)
+	unsent, err := a.TrySend(two, "202")
+	told(t, "no room", err, nil)
+	told(t, "send", b.Send(hub.Seat(2), 302), nil)
+	told(t, "send", b.Send(hub.Seat(1), 101), nil)
+	told(t, "no process", b.Send(hub.Seat(64), 64), chanhub.FaultNoProcess)
+	_, err = two.SelectChan(a.SendCase("402"), b.SendCase(502), a.SendCase("602"))
+	told(t, "select", err, nil)
+	told(t, "send", b.Send(two, 702), nil)
+	for _, wanted := range []int{302, 101, 502, 702} {
+		if value, err := b.Recv(two); value != wanted || err != nil {
+			t.Errorf("received %d, %v", value, err)
+		}
+	}
+	journal, _ := hub.Journal()
+	steps := regexp.MustCompile(`select \d+`).ReplaceAllString(string(journal), "select")
+	wanted := "chanhub journal 2\nprocs 3\n2 make 1\n2 make 9\n2 select s1:102 default\n2 select s1:202 default\n2 send 2 302\n" +
+		"1 send 2 101\n2 select s1:402 s2:502 s1:602\n2 send 2 702\n2 recv 2\n2 recv 2\n2 recv 2\n2 recv 2\n"
+	if !sent || unsent || steps != wanted {
 		t.Errorf("journal %q", journal)
 	}
 }

@@ -76,7 +76,7 @@ func OpenEndless(edition Edition, procs, keep int, chapters Chapters) (*Hub, err
 		handler.end()
 		return nil, refusalOf(refusal, ErrKeep)
 	}
-	return &Hub{at: at, calling: make([]int, procs), isEndless: true, handler: handler}, nil
+	return &Hub{at: at, processes: make([]process, procs), isEndless: true, handler: handler}, nil
 }
 
 // Before returns the text of the chapter before the present one. It returns nil if there is none, or if memory runs out. Only a hub

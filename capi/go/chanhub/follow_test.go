@@ -1,11 +1,10 @@
 package chanhub_test
 
 import (
-	"bytes"
 	"context"
 	"errors"
 	"fmt"
-	"reflect"
+	"strings"
 	"sync"
 	"testing"
 	"time"
@@ -33,47 +32,92 @@ func diverges(t *testing.T, name string, err error, step uint64) {
 	}
 }
 
-// race has three processes send, and one receive all. It returns what that one got, in order, and the journal.
-func race(t *testing.T, hub *chanhub.Hub) (got []uint64, journal []byte) {
+// What the five processes of a run share: a channel of capacity 1, another of 0, and how long the longest context lasts.
+type shared struct {
+	a, b    *chanhub.Chan[sentBy]
+	longest time.Duration
+}
+
+// What one process of a run does. It returns what it was told. Process 0 receives until the others have exited, so that it stalls.
+type act func(s *shared, seat *chanhub.Seat) (told []any)
+
+func fourSenders(s *shared, seat *chanhub.Seat) (told []any) {
+	if seat.Pid() == 0 {
+		return append(told, s.a.Range(seat, func(value sentBy) bool {
+			told = append(told, value)
+			return true
+		}))
+	}
+	for i := 0; i < 20; i++ {
+		told = append(told, s.a.Send(seat, sentBy{seat.Pid(), i}))
+	}
+	return told
+}
+
+func contexts(s *shared, seat *chanhub.Seat) (told []any) {
+	if seat.Pid() == 0 {
+		return fourSenders(s, seat)
+	}
+	for i := 0; i < 10; i++ {
+		own := sentBy{seat.Pid(), i}
+		var value sentBy
+		var err error
+		ctx, stop := context.WithTimeout(context.Background(), s.longest*time.Duration((i+seat.Pid())%4)/4)
+		if seat.Pid() < 3 {
+			err = s.b.SendContext(ctx, seat, own)
+		} else {
+			value, err = s.b.RecvContext(ctx, seat)
+		}
+		stop()
+		told = append(told, value, err)
+	}
+	return told
+}
+
+// made has five processes act in a hub, and returns what each was told, and the journal.
+func made(t *testing.T, hub *chanhub.Hub, act act, longest time.Duration) (told [5]string, journal string) {
 	t.Helper()
-	receives := hub.Seat(0)
-	port, err := receives.Make(2)
-	isError(t, "make", err, nil)
+	defer hub.Close()
+	boss := hub.Seat(0)
+	s := &shared{makeChan[sentBy](t, boss, 1), makeChan[sentBy](t, boss, 0), longest}
 	var group sync.WaitGroup
-	for pid := 1; pid <= 3; pid++ {
+	for pid := range told {
 		group.Add(1)
 		go func(pid int) {
 			defer group.Done()
 			seat := hub.Seat(pid)
-			for number := 0; number < 20; number++ {
-				isError(t, "send", seat.Send(port, chanhub.Number(uint64(100*pid+number))), nil)
-			}
+			told[pid] = fmt.Sprint(act(s, seat))
 			isError(t, "exit", seat.Exit(), nil)
 		}(pid)
 	}
-	for i := 0; i < 60; i++ {
-		value, err := receives.Recv(port)
-		isError(t, "receive", err, nil)
-		number, _ := value.Number()
-		got = append(got, number)
-	}
 	group.Wait()
-	isError(t, "exit", receives.Exit(), nil)
-	journal, err = hub.Journal()
+	text, err := hub.Journal()
 	isError(t, "journal", err, nil)
-	return got, journal
+	return told, string(text)
 }
 
-func TestFollowedRaces(t *testing.T) {
-	for i := 0; i < 20; i++ {
-		hub, err := chanhub.Open(chanhub.Edition2, 4, 1000)
-		isError(t, "open", err, nil)
-		got, journal := race(t, hub)
-		hub.Close()
-		again, same := race(t, follow(t, journal, false))
-		if !reflect.DeepEqual(got, again) || !bytes.Equal(journal, same) {
-			t.Fatal("another run")
-		}
+// Each run is made again, whatever its channels carry, and whenever its contexts are done.
+func TestFollowedRuns(t *testing.T) {
+	for name, act := range map[string]act{"four senders": fourSenders, "contexts": contexts} {
+		t.Run(name, func(t *testing.T) {
+			gaveUp := 0
+			for i := 0; i < 200; i++ {
+				hub, err := chanhub.OpenWith(chanhub.Options{Procs: 5, Timeouts: name == "contexts"})
+				isError(t, "open", err, nil)
+				told, journal := made(t, hub, act, 400*time.Microsecond)
+				if !strings.Contains(told[0], chanhub.ErrStalled.Error()) {
+					t.Fatalf("run %d: told %v", i, told)
+				}
+				longest := []time.Duration{0, time.Hour}[i%2]
+				if again, same := made(t, follow(t, []byte(journal), false), act, longest); told != again || journal != same {
+					t.Fatalf("run %d: told %v, and again %v", i, told, again)
+				}
+				gaveUp += strings.Count(journal, "\n5 cancel ")
+			}
+			if name == "contexts" && gaveUp < 200 {
+				t.Errorf("%d calls gave up after a wait", gaveUp)
+			}
+		})
 	}
 }
 
@@ -95,58 +139,6 @@ func TestDivergences(t *testing.T) {
 	port, err = hub.Seat(0).Make(1)
 	isError(t, "make", err, nil)
 	isError(t, "goes on", hub.Seat(0).Send(port, chanhub.Number(1)), nil)
-}
-
-// timesOut has two processes send and two receive, with contexts some of which are soon done. It returns what each was told, and
-// the journal.
-func timesOut(t *testing.T, hub *chanhub.Hub, longest time.Duration) (told [4][]string, journal []byte) {
-	t.Helper()
-	port, err := hub.Seat(0).Make(0)
-	isError(t, "make", err, nil)
-	var group sync.WaitGroup
-	for pid := 0; pid < 4; pid++ {
-		group.Add(1)
-		go func(pid int) {
-			defer group.Done()
-			seat := hub.Seat(pid)
-			for i := 0; i < 30; i++ {
-				ctx, stop := context.WithTimeout(context.Background(), longest*time.Duration((i+pid)%4)/4)
-				var value chanhub.Value
-				var err error
-				if pid < 2 {
-					err = seat.SendContext(ctx, port, chanhub.Number(uint64(100*pid+i)))
-				} else {
-					value, err = seat.RecvContext(ctx, port)
-				}
-				stop()
-				number, _ := value.Number()
-				told[pid] = append(told[pid], fmt.Sprint(number, err))
-			}
-			isError(t, "exit", seat.Exit(), nil)
-		}(pid)
-	}
-	group.Wait()
-	journal, err = hub.Journal()
-	isError(t, "journal", err, nil)
-	return told, journal
-}
-
-// Each call is told the same again, whenever its context is done.
-func TestFollowedContexts(t *testing.T) {
-	gaveUp := 0
-	for i := 0; i < 40; i++ {
-		told, journal := timesOut(t, timed(t, 4), 400*time.Microsecond)
-		for _, longest := range []time.Duration{0, time.Hour} {
-			again, same := timesOut(t, follow(t, journal, false), longest)
-			if !reflect.DeepEqual(told, again) || !bytes.Equal(journal, same) {
-				t.Fatalf("another run: %v and %v", told, again)
-			}
-		}
-		gaveUp += bytes.Count(journal, []byte("\n4 cancel "))
-	}
-	if gaveUp < 40 {
-		t.Errorf("%d calls gave up after a wait", gaveUp)
-	}
 }
 
 // A context that was cancelled, though it is not now; and contexts count once the hub goes on.

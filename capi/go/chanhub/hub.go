@@ -126,9 +126,15 @@ type Hub struct {
 	unwritten error          // what Close returns
 	running   sync.WaitGroup // the calls in the library
 
-	lock    sync.Mutex
-	closed  bool
-	calling []int // for each process, the number of its calls in the library
+	lock      sync.Mutex
+	closed    bool
+	processes []process
+}
+
+// A process of a hub, as this package knows it.
+type process struct {
+	calling int    // the number of its calls in the library
+	given   uint64 // the number of values that it gave to Chans
 }
 
 // Open opens a hub with 1 to 64 processes. The limit (1 to 1,000,000) is the most steps that the hub makes; exits do
@@ -143,7 +149,7 @@ func Open(edition Edition, procs int, limit int) (*Hub, error) {
 	if refusal != 0 {
 		return nil, refusalOf(refusal, ErrLimit)
 	}
-	return &Hub{at: at, calling: make([]int, procs)}, nil
+	return &Hub{at: at, processes: make([]process, procs)}, nil
 }
 
 // refusalOf returns the error for a hub that was not opened. The error for refusal 2 is given.
@@ -239,7 +245,7 @@ func (h *Hub) shut() {
 	for _, pid := range idle {
 		h.exit(pid)
 	}
-	for pid := range h.calling {
+	for pid := range h.processes {
 		C.chanhub_expire(h.at, C.uint(pid))
 	}
 }
@@ -255,8 +261,8 @@ func (h *Hub) refuse() (idle []int) {
 	h.lock.Lock()
 	defer h.lock.Unlock()
 	h.closed = true
-	for pid, calls := range h.calling {
-		if calls == 0 {
+	for pid, process := range h.processes {
+		if process.calling == 0 {
 			idle = append(idle, pid)
 		}
 	}
@@ -281,7 +287,7 @@ func (h *Hub) enter(pid int) error {
 	}
 	h.running.Add(1)
 	if h.has(pid) {
-		h.calling[pid]++
+		h.processes[pid].calling++
 	}
 	return nil
 }
@@ -301,14 +307,26 @@ func (h *Hub) end(pid int) (closed, isLast bool) {
 	h.lock.Lock()
 	defer h.lock.Unlock()
 	if h.has(pid) {
-		h.calling[pid]--
-		isLast = h.calling[pid] == 0
+		h.processes[pid].calling--
+		isLast = h.processes[pid].calling == 0
 	}
 	return h.closed, isLast
 }
 
 func (h *Hub) has(pid int) bool {
-	return 0 <= pid && pid < len(h.calling)
+	return 0 <= pid && pid < len(h.processes)
+}
+
+// numberFor returns the number of the next value that a process gives to a Chan, and 0 if there is no such process. It depends on
+// nothing that other processes do, so a run that is followed sends the same numbers.
+func (h *Hub) numberFor(pid int) uint64 {
+	if !h.has(pid) {
+		return 0 // the hub will refuse the call
+	}
+	h.lock.Lock()
+	defer h.lock.Unlock()
+	h.processes[pid].given++
+	return 100*h.processes[pid].given + uint64(pid)
 }
 
 // within converts a number for the library. A number that C would truncate becomes the greatest one, which the library refuses.

@@ -60,5 +60,5 @@ func OpenWith(options Options) (*Hub, error) {
 		}
 		return nil, refusalOf(refusal, ErrLimit)
 	}
-	return &Hub{at: at, calling: make([]int, options.Procs), isEndless: options.Keep != 0, handler: handler}, nil
+	return &Hub{at: at, processes: make([]process, options.Procs), isEndless: options.Keep != 0, handler: handler}, nil
 }

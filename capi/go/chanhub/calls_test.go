@@ -216,6 +216,27 @@ func TestFaults(t *testing.T) {
 	told(t, "a 65th port", err, chanhub.FaultTooManyPorts)
 }
 
+func TestStepsLeft(t *testing.T) {
+	are := func(name string, hub *chanhub.Hub, wanted uint64) {
+		t.Helper()
+		if left := hub.StepsLeft(); left != wanted {
+			t.Errorf("%s: %d are left", name, left)
+		}
+	}
+	hub := open(t, chanhub.Edition1, 2, 2)
+	are("open", hub, 2)
+	port := makePort(t, hub.Seat(0), 0)
+	told(t, "exit", hub.Seat(1).Exit(), nil)
+	are("a step and an exit", hub, 1)
+	told(t, "close", hub.Seat(0).Close(port), nil)
+	are("full", hub, 0)
+	told(t, "full", hub.Seat(0).Close(port), chanhub.FaultJournalFull)
+	endless := openEndless(t, 1, 1, chanhub.Chapters{})
+	are("endless", endless, math.MaxUint64)
+	told(t, "close", endless.Close(), nil)
+	are("closed", endless, 0)
+}
+
 func TestASecondCallWhileOneWaitsIsBusy(t *testing.T) {
 	hub := open(t, chanhub.Edition1, 2, 100)
 	port := makePort(t, hub.Seat(0), 0)

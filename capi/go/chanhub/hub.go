@@ -184,6 +184,16 @@ func (h *Hub) Look(port Port) (Counts, error) {
 	return Counts{int(counts.cap), uint64(counts.sent), uint64(counts.received), bool(counts.closed)}, nil
 }
 
+// StepsLeft returns how many more steps other than exits the hub makes, by all its processes, before it returns [FaultJournalFull].
+// It returns [math.MaxUint64] for a hub that never ends, and 0 once the hub is closed.
+func (h *Hub) StepsLeft() uint64 {
+	if h.enter(nobody) != nil {
+		return 0
+	}
+	defer h.leave(nobody)
+	return uint64(C.chanhub_steps_left(h.at))
+}
+
 // Journal returns the text of the journal so far, and for a hub of [OpenEndless] that of the present chapter. It needs no seat, so it
 // also works while every process waits. Other calls on the hub are delayed while the text is made. `chanhub replay` reads a text of
 // at most 67,108,864 bytes. A chapter is never longer. Journal returns [FaultNoMemory] if memory runs out.

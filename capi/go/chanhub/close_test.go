@@ -1,6 +1,7 @@
 package chanhub_test
 
 import (
+	"context"
 	"errors"
 	"os"
 	"strconv"
@@ -71,33 +72,45 @@ func TestCloseEndsTheCallsThatWait(t *testing.T) {
 // Whoever closes at the same time has to wait until the memory is given back, and no call may go on in it.
 func TestCloseWhileCallsRun(t *testing.T) {
 	const procs = 16
+	ways := []func(c *chanhub.Chan[int], seat *chanhub.Seat) error{
+		func(c *chanhub.Chan[int], seat *chanhub.Seat) error { return c.Send(seat, 1) },
+		func(c *chanhub.Chan[int], seat *chanhub.Seat) error {
+			_, err := c.Recv(seat)
+			return err
+		},
+		func(c *chanhub.Chan[int], seat *chanhub.Seat) error {
+			_, err := seat.SelectChan(c.RecvCase(nil), c.SendCase(2))
+			return err
+		},
+		func(c *chanhub.Chan[int], seat *chanhub.Seat) error {
+			ctx, stop := context.WithTimeout(context.Background(), 100*time.Microsecond)
+			defer stop()
+			_, err := c.RecvContext(ctx, seat)
+			return err
+		},
+	}
 	for round := 0; round < 50; round++ {
-		hub := open(t, chanhub.Edition1, procs, 1_000_000)
-		port := makePort(t, hub.Seat(0), round%3)
+		hub, err := chanhub.OpenWith(chanhub.Options{Procs: procs, Timeouts: round%2 == 1})
+		told(t, "open", err, nil)
+		c := makeChan[int](t, hub.Seat(0), round%3)
 		var calls sync.WaitGroup
 		calls.Add(procs + 1)
 		for pid := 0; pid < procs; pid++ {
-			sends, seat := pid%2 == 0, hub.Seat(pid)
+			call, seat := ways[pid%(3+round%2)], hub.Seat(pid)
 			go func() {
 				defer calls.Done()
 				err := error(nil)
-				for err == nil {
-					if sends {
-						err = seat.Send(port, chanhub.Number(1))
-					} else {
-						_, err = seat.Recv(port)
-					}
+				for err == nil || errors.Is(err, context.DeadlineExceeded) {
+					err = call(c, seat)
 				}
-				if !errors.Is(err, chanhub.ErrHubClosed) {
-					t.Errorf("told %v", err)
-				}
+				told(t, "a call", err, chanhub.ErrHubClosed)
 			}()
 		}
 		go func() {
 			defer calls.Done()
 			err := error(nil)
 			for err == nil {
-				_, err = hub.Look(port)
+				_, err = hub.Look(c.Port())
 			}
 			told(t, "look", err, chanhub.ErrHubClosed)
 		}()

@@ -4,6 +4,8 @@ import (
 	"context"
 	"errors"
 	"math"
+	"math/rand"
+	"runtime"
 	"strings"
 	"sync"
 	"testing"
@@ -126,6 +128,66 @@ func TestContextsOfChans(t *testing.T) {
 	sending.Wait()
 	if n := c.Len(); n != 0 {
 		t.Errorf("%d are left", n)
+	}
+}
+
+// Many contexts are done, by their deadlines or by hand, while values pass: each value is received once or is left, and no goroutine is.
+func TestContextsUnderLoad(t *testing.T) {
+	const procs = 8
+	before := runtime.NumGoroutine()
+	for capacity := 0; capacity < 3; capacity++ {
+		hub := timed(t, procs)
+		c := makeChan[int](t, hub.Seat(0), capacity)
+		var passed [procs][]int // what each process sent or received
+		var calling sync.WaitGroup
+		for pid := range passed {
+			calling.Add(1)
+			go func(pid int) {
+				defer calling.Done()
+				seat, random := hub.Seat(pid), rand.New(rand.NewSource(int64(pid)))
+				for i := 0; i < 200; i++ {
+					value, err := 1000*pid+i, error(nil)
+					ctx, stop := context.WithTimeout(context.Background(), time.Duration(random.Intn(1000))*time.Microsecond)
+					if random.Intn(4) == 0 {
+						time.AfterFunc(50*time.Microsecond, stop)
+					}
+					if pid%2 == 0 {
+						err = c.SendContext(ctx, seat, value)
+					} else {
+						value, err = c.RecvContext(ctx, seat)
+					}
+					stop()
+					if err == nil {
+						passed[pid] = append(passed[pid], value)
+					} else if !errors.Is(err, context.DeadlineExceeded) && !errors.Is(err, context.Canceled) {
+						t.Errorf("found %v", err)
+					}
+				}
+			}(pid)
+		}
+		calling.Wait()
+		left := make(map[int]bool)
+		for pid := 0; pid < procs; pid += 2 {
+			for _, value := range passed[pid] {
+				left[value] = true
+			}
+		}
+		for pid := 1; pid < procs; pid += 2 {
+			for _, value := range passed[pid] {
+				if !left[value] {
+					t.Errorf("received %d", value)
+				}
+				delete(left, value)
+			}
+		}
+		if c.Len() != len(left) {
+			t.Errorf("%d are left, and not %d", c.Len(), len(left))
+		}
+	}
+	for began := time.Now(); runtime.NumGoroutine() > before; time.Sleep(time.Millisecond) {
+		if time.Since(began) > long {
+			t.Fatalf("%d goroutines, and %d before", runtime.NumGoroutine(), before)
+		}
 	}
 }
 

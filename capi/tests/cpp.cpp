@@ -524,6 +524,12 @@ static void follows() {
     is_fault("stopped", told, Fault::Diverged);
     is("the step that would be next", told.value == Value(1));
 
+    const std::string chosen = "chanhub journal 2\nprocs 1\n0 make 1\n0 select 1 s1:7 s1:8\n0 recv 1\n";
+    const Hub again = Hub::follow(chosen);
+    is("made", again.seat(0).make(1) == port);
+    is("the choice of the journal", again.seat(0).select({chanhub::send(port, 7), chanhub::send(port, 8)}).index == 1);
+    is("what was chosen", again.seat(0).recv_told(port).value == Value(8) && again.journal() == chosen);
+
     is_refused("no journal", {}, 5, 1, "chanhub: the journal to follow is malformed, in line 1");
     is_refused("no word", "chanhub journal 2\nprocs 1\n0 mak 1\n", 5, 3,
                "chanhub: the journal to follow is malformed, in line 3");

@@ -56,6 +56,8 @@ func (e JournalError) Error() string {
 // and whether or not its context is done. It then returns the error of its context, or what that will be. Once the hub goes on
 // freely, contexts count.
 //
+// A select fires the case that it fired there, whatever word it passes.
+//
 // A process that never makes its next step holds up all whose turn is later. Chapters cannot be followed.
 //
 // Follow returns a [JournalError] if the journal cannot be followed, and [ErrMemory] if memory runs out.

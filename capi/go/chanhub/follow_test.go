@@ -41,7 +41,7 @@ type shared struct {
 // What one process of a run does. It returns what it was told. Process 0 receives until the others have exited, so that it stalls.
 type act func(s *shared, seat *chanhub.Seat) (told []any)
 
-func fourSenders(s *shared, seat *chanhub.Seat) (told []any) {
+func sending(s *shared, seat *chanhub.Seat) (told []any) {
 	if seat.Pid() == 0 {
 		return append(told, s.a.Range(seat, func(value sentBy) bool {
 			told = append(told, value)
@@ -54,22 +54,65 @@ func fourSenders(s *shared, seat *chanhub.Seat) (told []any) {
 	return told
 }
 
-func contexts(s *shared, seat *chanhub.Seat) (told []any) {
+func selecting(s *shared, seat *chanhub.Seat) (told []any) {
+	var value sentBy
+	var index int
+	var err error
+	for i := 0; err == nil && (i < 20 || seat.Pid() == 0); i++ {
+		own := sentBy{seat.Pid(), i}
+		switch seat.Pid() {
+		case 0:
+			index, err = seat.SelectChan(s.a.RecvCase(&value), s.b.RecvCase(&value))
+		case 1, 2:
+			index, err = seat.SelectChan(s.a.SendCase(own), s.b.SendCase(own))
+		default:
+			index, err = seat.TrySelectChan(s.a.RecvCase(&value), s.b.SendCase(own), s.a.SendCase(own))
+		}
+		told = append(told, index, value, err)
+	}
+	return told
+}
+
+func trying(s *shared, seat *chanhub.Seat) (told []any) {
 	if seat.Pid() == 0 {
-		return fourSenders(s, seat)
+		return sending(s, seat)
+	}
+	for i := 0; i < 20; i++ {
+		var value sentBy
+		var fired bool
+		var err error
+		if (seat.Pid()+i)%2 == 0 {
+			fired, err = s.a.TrySend(seat, sentBy{seat.Pid(), i})
+		} else {
+			value, fired, err = s.a.TryRecv(seat)
+		}
+		told = append(told, value, fired, err)
+	}
+	return told
+}
+
+func givingUp(s *shared, seat *chanhub.Seat) (told []any) {
+	if seat.Pid() == 0 {
+		return sending(s, seat)
 	}
 	for i := 0; i < 10; i++ {
 		own := sentBy{seat.Pid(), i}
 		var value sentBy
+		var index int
 		var err error
 		ctx, stop := context.WithTimeout(context.Background(), s.longest*time.Duration((i+seat.Pid())%4)/4)
-		if seat.Pid() < 3 {
+		switch seat.Pid() {
+		case 1:
 			err = s.b.SendContext(ctx, seat, own)
-		} else {
+		case 2:
 			value, err = s.b.RecvContext(ctx, seat)
+		case 3:
+			index, err = seat.SelectChanContext(ctx, s.b.SendCase(own), s.a.RecvCase(&value))
+		case 4:
+			index, err = seat.SelectChanContext(ctx, s.b.RecvCase(&value), s.a.SendCase(own))
 		}
 		stop()
-		told = append(told, value, err)
+		told = append(told, index, value, err)
 	}
 	return told
 }
@@ -98,7 +141,7 @@ func made(t *testing.T, hub *chanhub.Hub, act act, longest time.Duration) (told 
 
 // Each run is made again, whatever its channels carry, and whenever its contexts are done.
 func TestFollowedRuns(t *testing.T) {
-	for name, act := range map[string]act{"four senders": fourSenders, "contexts": contexts} {
+	for name, act := range map[string]act{"four senders": sending, "selects": selecting, "tries": trying, "contexts": givingUp} {
 		t.Run(name, func(t *testing.T) {
 			gaveUp := 0
 			for i := 0; i < 200; i++ {

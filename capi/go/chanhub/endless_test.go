@@ -381,7 +381,9 @@ func TestAPanicEndsTheProgram(t *testing.T) {
 	if !errors.As(err, &exit) || exit.ExitCode() != 2 {
 		t.Errorf("ended with %v", err)
 	}
-	if strings.Count(said, "panic: no room for chapters") != 1 || !strings.Contains(said, "endless_test.go") {
+	// The hub may get as far as the next chapter meanwhile, whose panic is a second one.
+	isRaisedAgain := strings.Contains(said, "[recovered]")
+	if !strings.Contains(said, "panic: no room for chapters\n") || isRaisedAgain || !strings.Contains(said, "endless_test.go") {
 		t.Errorf("said %s", said)
 	}
 }

@@ -1,17 +1,17 @@
 #!/usr/bin/env python3
-"""Proves and builds a program or a static library, with the libraries that it stands on.
+"""Proves and builds programs or static libraries, with the libraries that they stand on.
 
-    build.py CRATE                      builds it
-    build.py --run PROGRAM WORDS..      builds it and then runs it with these words, in place of this script
+    build.py CRATE..
 
 What is current, as `current.py` says, is left as it is. The rest is proved from nothing: each crate as soon as those below it are built, as many side by side as there are processors and memory. The crate with the longest
 chain behind it has the processors to itself, and the others take what it leaves idle. A library keeps its statements alone, and no
 check keeps anything for the next one, which is quicker than `rt lib` and `rt run`; the price is that after an edit a crate is
 proved whole, with all crates above it.
-Prints a line for each crate that is built, all that was said of one that is not, and for which other build it waits; status 0 where all
-are built. Ctrl-C or a kill ends the checks too; what is built by then stays, and the next build goes on from there.
+Prints a line for each crate that is built, with how many are left and how long they may take, all that was said of one that is not, and
+for which other build it waits; status 0 where all are built. Ctrl-C or a kill ends the checks too; what is built by then stays, and the next build goes on from there.
 """
 import fcntl
+import math
 import os
 import re
 import shutil
@@ -32,21 +32,57 @@ REST = 600
 BYTES = 2_000_000_000
 
 
-def chains(wanted, crates):
-    """By crate, how long it and what stands on it take, one after the other, in lines of code."""
+def length(crate):
+    """How long a crate takes, in lines of code."""
+    lines = 0
+    for path in sources(crate):
+        if path.endswith('.rt'):
+            with open(path, 'rb') as file:
+                lines += sum(1 for _ in file)
+    return REST + lines
+
+
+def chains(lengths, crates):
+    """By crate, how long it and what stands on it take, one after the other."""
     found = {}
 
     def chain(crate):
         if crate not in found:
-            lines = 0
-            for path in sources(crate):
-                if path.endswith('.rt'):
-                    with open(path, 'rb') as file:
-                        lines += sum(1 for _ in file)
-            found[crate] = REST + lines + max((chain(it) for it in wanted if crate in crates[it]), default=0)
+            found[crate] = lengths[crate] + max((chain(it) for it in lengths if crate in crates[it]), default=0)
         return found[crate]
 
-    return {it: chain(it) for it in wanted}
+    return {it: chain(it) for it in lengths}
+
+
+class Clock:
+    """Tells how long a build may take, by what its crates took that are built."""
+
+    def __init__(self, lengths, behind):
+        self.lengths = lengths
+        self.behind = behind
+        self.began = time.monotonic()
+        self.begun = {}
+        self.took = {}
+
+    def begin(self, crate):
+        self.begun[crate] = time.monotonic()
+
+    def end(self, crate):
+        """What the crate took, and what is left."""
+        self.took[crate] = time.monotonic() - self.begun[crate]
+        return f'{self.took[crate]:.0f} s; {self.left()}'
+
+    def left(self):
+        """How many crates are left, and how many minutes: by the longest chain of them, or by all of them, whichever takes longer."""
+        now = time.monotonic()
+        waiting = self.lengths.keys() - self.took.keys()
+        if not waiting:
+            return 'none left'
+        done = sum(self.lengths[it] for it in self.took)
+        rate = sum(self.took.values()) / done
+        chain = max(rate * self.behind[it] - (now - self.begun.get(it, now)) for it in waiting)
+        rest = (now - self.began) * sum(self.lengths[it] for it in waiting) / done
+        return f'{len(waiting)} left, some {math.ceil(max(chain, rest) / 60)} min'
 
 
 def processes():
@@ -98,13 +134,12 @@ def put_in_place(crate, made, began):
 
 
 def build(crate, jobs, niceness, began):
-    """Whether the crate is proved and built."""
+    """Whether the crate is proved and built, and what was said of it."""
     # Beside its place, so that it can be moved there whole; what a killed build left goes.
     room = os.path.join(folder(ROOT, crate), 'out', 'building')
     remove(room)
     os.makedirs(room)
     try:
-        started = time.monotonic()
         made = os.path.join(room, os.path.basename(output(crate)))
         with tempfile.TemporaryFile('w+', errors='replace', dir=room) as log:
             well = make(crate, made, jobs, niceness, log, room)
@@ -115,15 +150,16 @@ def build(crate, jobs, niceness, began):
     finally:
         shutil.rmtree(room, ignore_errors=True)
     verdict = re.findall(r'^logic=.*', said, re.M)
-    print(f'{crate}: {time.monotonic() - started:.0f} s, {verdict[-1]}' if well and verdict else f'{said}\n{crate}: not built', file=sys.stderr, flush=True)
-    return well
+    return well, verdict[-1] if well and verdict else said
 
 
 def build_all(wanted, crates):
     """Builds each wanted crate once those below it are built."""
     processors = len(os.sched_getaffinity(0))
     memory = processes()
-    behind = chains(wanted, crates)
+    lengths = {it: length(it) for it in wanted}
+    behind = chains(lengths, crates)
+    clock = Clock(lengths, behind)
     left = sorted(wanted, key=lambda it: -behind[it])
     running = {}
     began = time.time_ns()
@@ -139,10 +175,13 @@ def build_all(wanted, crates):
                 share = behind[crate] / longest
                 jobs = max(1, min(free, processors if share > 0.8 else max(2, processors // 2)))
                 left.remove(crate)
+                clock.begin(crate)
                 running[pool.submit(build, crate, jobs, round(19 - 19 * share), began)] = crate, jobs
             for done in wait(running, return_when=FIRST_COMPLETED).done:
                 crate, _ = running.pop(done)
-                if not done.result():
+                well, said = done.result()
+                print(f'{crate}: {clock.end(crate)}; {said}' if well else f'{said}\n{crate}: not built', file=sys.stderr, flush=True)
+                if not well:
                     left.clear()
                     return False
     return True
@@ -162,36 +201,39 @@ def hold(folders, who):
             pass
 
 
-def bring_up_to_date(crate, crates):
-    """Whether all is built, in the end."""
-    # Where nothing is to be built there is nothing to wait for.
-    if not stale(crate, crates):
-        return True
+def has_rt(crate):
+    """Whether there is the command `rt`; if not, it says so."""
     if shutil.which('rt') is None:
-        print(f'{crate}: it has to be proved and built, and there is no command rt on the path: put the folder on it that has the toolchain\'s rt', file=sys.stderr)
+        print(f'{crate}: it has to be built, and there is no command rt on the path: put the folder on it that has the toolchain\'s rt', file=sys.stderr)
+        return False
+    return True
+
+
+def bring_up_to_date(wanted, crates):
+    """Whether all is built, in the end."""
+    def left():
+        return set().union(*(stale(it, crates) for it in wanted))
+
+    # Where nothing is to be built there is nothing to wait for.
+    if not left():
+        return True
+    if not has_rt(' and '.join(wanted)):
         return False
     ending.end_by_signals()
-    hold([folder(ROOT, it) for it in sorted({crate, *below(crate, crates)})], crate)
-    return build_all(stale(crate, crates), crates)
+    hold([folder(ROOT, it) for it in sorted(set(wanted).union(*(below(it, crates) for it in wanted)))], wanted[0])
+    return build_all(left(), crates)
 
 
 def main():
     words = sys.argv[1:]
-    runs = words[:1] == ['--run']
-    if runs:
-        del words[0]
+    if words in (['-h'], ['--help']):
+        print(__doc__, end='')
+        return 0
     crates = read_crates()
-    if not words or words[0] not in crates or not runs and len(words) > 1:
-        print('usage: build.py [--run] CRATE [WORDS], with a crate that crates.txt lists, and after --run the words of the program', file=sys.stderr)
+    if not words or not set(words) <= crates.keys():
+        print('usage: build.py CRATE.., which crates.txt lists', file=sys.stderr)
         return 2
-    crate = words[0]
-    is_built = bring_up_to_date(crate, crates)
-    if not runs:
-        return 0 if is_built else 1
-    if not is_built:
-        print(f'{crate}: not built', file=sys.stderr)
-        return 125
-    ending.become(output(crate), [output(crate), *words[1:]])
+    return 0 if bring_up_to_date(words, crates) else 1
 
 
 if __name__ == '__main__':

@@ -1,6 +1,6 @@
 #!/usr/bin/env python3
-"""builds_test.py [TREE]: tries build.py, current.py, ../chanhub, ../test, ../capi/Makefile and explain.sh of this tree, or of another one,
-on a small tree of crates with a toolchain that only writes files.
+"""builds_test.py [TREE]: tries build.py, current.py, ready.py, answer.py, ../chanhub, ../test, ../capi/Makefile, explain.sh and
+until_stall.sh of this tree, or of another one, on a small tree of crates with a toolchain that only writes files.
 
 That shows what is built, what is waited for and what is left, in seconds. A line for each test that fails; the last line counts:
 'N passed, M failed'.
@@ -8,6 +8,7 @@ That shows what is built, what is waited for and what is left, in seconds. A lin
 import contextlib
 import fcntl
 import os
+import re
 import shutil
 import signal
 import stat
@@ -30,6 +31,25 @@ PROGRAMS = ('chanhub', 'chanhub_tool')
 RT = '''#!/bin/sh
 case $1 in
     doc) echo "$KIT/START-HERE.md" ;;
+    try)
+        # As rt does: the program lies in a folder of rt's while it runs, and is gone behind that.
+        echo "tried_$2" >> "$LOG"
+        room=$(mktemp -d)
+        if [ "$(cat "$KIT/slow")" = "tried_$2" ]; then
+            setsid sleep SECONDS &
+            sleep SECONDS
+        fi
+        status=$(cat "$KIT/try_status")
+        if [ "$status" != 0 ]; then
+            echo "rt try ends with $status" >&2
+            exit "$status"
+        fi
+        mkdir "$room/native"
+        printf '#!/bin/sh\necho tried "$@"\n[ "$1" != replay ] || cat\nexit "$(cat "$KIT/status")"\n' > "$room/native/program"
+        chmod +x "$room/native/program"
+        cat "$5" > "$room/read"
+        rm -r "$room"
+        ;;
     ci)
         # As rt does: what is built is set aside, and the rest of a run takes long.
         mkdir -p .git/rt-aside
@@ -117,7 +137,8 @@ class Room:
         write(os.path.join(self.kit, 'path', 'rt'), RT.replace('SECONDS', str(SLEEP)), True)
         write(os.path.join(self.kit, 'bin', 'rattle'), RATTLE.replace('SECONDS', str(SLEEP)), True)
         write(os.path.join(self.kit, 'bin', 'rattle-link'), LINK, True)
-        write(os.path.join(self.kit, 'slow'), '')
+        for name, text in (('slow', ''), ('try_status', '0'), ('status', '0')):
+            write(os.path.join(self.kit, name), text)
         self.archives()
         self.write_lines(LINES)
 
@@ -149,10 +170,10 @@ class Room:
             start_new_session=True, **how,
         )
 
-    def run(self, *words, has_rt=True):
+    def run(self, *words, has_rt=True, given=''):
         try:
             done = subprocess.run(
-                words, cwd=self.top, env=self.env(has_rt), stdin=subprocess.DEVNULL, capture_output=True, text=True, timeout=LONG,
+                words, cwd=self.top, env=self.env(has_rt), input=given, capture_output=True, text=True, timeout=LONG,
             )
         except FileNotFoundError:
             return None, '', 'there is no such script'
@@ -201,7 +222,7 @@ def by_its_line(tests, room):
     time.sleep(0.1)
     room.write_lines({**LINES, 'other': 'other: low'})
     tests.same('a line added to crates.txt makes no crate stale', room.build(), [])
-    tests.same('a line added makes no crate stale for ./chanhub', room.built('./chanhub', 'replay'), [])
+    tests.same('a line added makes no crate stale for ./chanhub', room.run('./chanhub', 'replay'), (0, 'ran replay\n', ''))
     time.sleep(0.1)
     room.write_lines({**LINES, 'high': 'high: low  itoa # a library more'})
     tests.same('a line that changes makes its crate stale, and those above it', room.build(), ['chanhub', 'high'])
@@ -210,16 +231,17 @@ def by_its_line(tests, room):
     tests.same('spaces and comments of a line make nothing stale', room.build(), [])
     time.sleep(0.1)
     room.write_lines({**LINES, 'high': 'high: low itoa', 'chanhub': 'chanhub may_wait=2: low high'})
-    tests.same('a word of a line makes its crate stale', room.built('./chanhub'), ['chanhub'])
+    tests.same('a word of a line makes its crate stale', room.build(), ['chanhub'])
     time.sleep(0.1)
     room.write_lines(LINES)
     tests.same('a line that is as it was makes its crate stale once more', room.build(), ['chanhub', 'high'])
     time.sleep(0.1)
     write(room.path('crates', 'high', 'src', 'lib.rt'), '//! An edit.\n')
-    tests.same('an edit makes its crate stale, for ./chanhub too', room.built('./chanhub', 'replay'), ['chanhub', 'high'])
+    tests.same('an edit makes its crate stale, for ./chanhub too', room.built('./chanhub', 'replay'), ['tried_chanhub'])
+    tests.same('and for a build', room.build(), ['chanhub', 'high'])
     # As a copy that keeps times does.
     os.utime(room.path('crates', 'high', 'src', 'lib.rt'), (1, 1))
-    tests.same('an older file makes no crate stale', (room.build(), room.built('./chanhub')), ([], []))
+    tests.same('an older file makes no crate stale', (room.build(), room.run('./chanhub', 'replay')), ([], (0, 'ran replay\n', '')))
 
 
 def by_another(tests, room):
@@ -250,12 +272,12 @@ def wrapper(tests, room):
     spent = []
     while not spent or min(spent) >= 0.15 and len(spent) < 100:
         began = time.monotonic()
-        room.run('./chanhub')
+        room.run('./chanhub', 'replay')
         spent.append(time.monotonic() - began)
     tests.test('./chanhub begins at once', min(spent) < 0.15, '%.2f s' % min(spent))
     tests.same('./chanhub needs no rt where it is built', room.run('./chanhub', 'replay', has_rt=False), (0, 'ran replay\n', ''))
     status, told, errors = room.run('./chanhub', '--help', has_rt=False)
-    tests.test('./chanhub --help', (status, errors, told.count('\n')) == (0, '', 10) and 'ran' not in told.split() and './chanhub verify' in told)
+    tests.test('./chanhub --help', (status, errors) == (0, '') and 'ran' not in told.split() and './chanhub verify' in told and './chanhub build' in told)
     tests.same('./chanhub takes --help beside other words as the program does', room.run('./chanhub', '--help', 'run'), (0, 'ran --help run\n', ''))
     time.sleep(0.1)
     write(room.path('crates', 'low', 'src', 'lib.rt'), '//! Another edit.\n')
@@ -266,6 +288,86 @@ def wrapper(tests, room):
     status, told, errors = room.run('./chanhub', '--help')
     tests.test('./chanhub --help builds nothing', status == 0 and 'ran' not in told.split() and not errors)
     room.build()
+
+
+UNPROVED = re.compile(r'(chanhub|chanhub_tool): from sources(, compiled in a minute)?, checked as it runs, not proved: ./chanhub build proves it, in some \d+ minutes\n')
+
+
+def forget(room):
+    """Nothing is built."""
+    for crate in LINES:
+        shutil.rmtree(room.path('crates', crate, 'out'), ignore_errors=True)
+    write(room.log, '')
+
+
+def from_sources(tests, room):
+    """Where nothing is built, `rt try` compiles the program, and it stays."""
+    forget(room)
+    first, second = room.run('./chanhub', 'run', 'a b'), room.run('./chanhub', 'run', 'a b', has_rt=False)
+    for name, (status, told, errors), is_compiled in (('compiles', first, True), ('keeps', second, False)):
+        said = UNPROVED.fullmatch(errors)
+        tests.test('./chanhub %s what is not built' % name, (status, told) == (0, 'tried run a b\n') and said and bool(said[2]) == is_compiled, (status, told, errors))
+    tests.same('./chanhub compiles it once, and proves nothing', read(room.log), 'tried_chanhub\n')
+    for wanted in range(5):
+        write(os.path.join(room.kit, 'status'), str(wanted))
+        status, told, errors = room.run('./chanhub', 'replay', given='one\ntwo')
+        tests.test('./chanhub ends with status %d of what it compiled' % wanted, (status, told) == (wanted, 'tried replay\none\ntwo') and UNPROVED.fullmatch(errors), (status, told, errors))
+    write(os.path.join(room.kit, 'status'), '0')
+    status, told, errors = room.run('./chanhub', 'explore', 'a b')
+    tests.test('./chanhub explore is of chanhub_tool', (status, told) == (0, 'tried explore a b\n') and UNPROVED.fullmatch(errors)[1] == 'chanhub_tool', (status, told, errors))
+    status, told, errors = room.run('tools/ready.py', 'chanhub')
+    tests.test('ready.py prints the path', (status, told) == (0, room.path('crates', 'chanhub', 'out', 'tried') + '\n') and UNPROVED.fullmatch(errors), (status, told, errors))
+    write(os.path.join(room.kit, 'status'), '4')
+    status, told, errors = room.run('tools/until_stall.sh', 'scenario')
+    tests.test('until_stall.sh runs what is not built', status == 0 and told.startswith('run 1 stalled: ') and UNPROVED.fullmatch(errors), (status, told, errors))
+    # The journal that it keeps.
+    end(*room.left())
+    write(os.path.join(room.kit, 'status'), '0')
+    time.sleep(0.1)
+    write(room.path('crates', 'low', 'src', 'lib.rt'), '//! Not compiled yet.\n')
+    tests.same('an edit has it compiled anew', (room.built('./chanhub', 'replay'), room.built('./chanhub', 'replay')), (['tried_chanhub'], []))
+    forget(room)
+    status, told, errors = room.run('./chanhub', 'runn')
+    tests.test('./chanhub compiles nothing to refuse its words', (status, told, read(room.log)) == (2, '', '') and errors.startswith('chanhub: bad arguments\n./chanhub: `runn` '), errors)
+    write(os.path.join(room.kit, 'try_status'), '1')
+    status, told, errors = room.run('./chanhub', 'replay')
+    is_well = (status, told, read(room.log)) == (125, '', 'tried_chanhub\n') and 'rt try ends with 1' in errors and 'Traceback' not in errors
+    tests.test('./chanhub proves nothing that does not compile', is_well, (status, told, errors))
+    write(os.path.join(room.kit, 'try_status'), '2')
+    status, told, errors = room.run('./chanhub', 'replay')
+    is_well = (status, told) == (0, 'ran replay\n') and 'so it is proved and built' in errors
+    tests.test('./chanhub builds where rt try makes no program', is_well, (status, told, errors))
+    write(os.path.join(room.kit, 'try_status'), '0')
+    tests.same('compiling leaves nothing', room.left(), ([], []))
+
+
+def builds_both(tests, room):
+    forget(room)
+    status, told, errors = room.run('./chanhub', 'build')
+    left = re.findall(r'^(\w+): \d+ s; (none|\d+) left(?:, some \d+ min)?; logic=proved$', errors, re.M)
+    is_well = (status, told, errors.count('\n')) == (0, '', 4) and {it for it, _ in left} == {'low', 'high', 'chanhub', 'chanhub_tool'}
+    tests.test('./chanhub build builds both programs, and counts what is left', is_well and [it for _, it in left] == ['3', '2', '1', 'none'], errors)
+    for words in (('replay',), ('story',)):
+        tests.same('./chanhub %s runs what is built' % words, room.run('./chanhub', *words), (0, 'ran %s\n' % words, ''))
+
+
+def answers(tests, room):
+    """A program that answer.py runs."""
+    program = os.path.join(room.kit, 'program')
+    write(program, '#!/bin/sh\nsleep SECONDS &\ntrap "kill $!; echo heard; exit 3" TERM\necho begun\nwait\n'.replace('SECONDS', str(SLEEP)), True)
+    child = room.start('tools/answer.py', program, 'run')
+    begun = child.stdout.readline()
+    child.terminate()
+    told, errors = child.communicate(timeout=LONG)
+    tests.same('a signal reaches the program', (begun, told, errors, child.returncode), ('begun\n', 'heard\n', '', 3))
+    write(program, '#!/bin/sh\nkill -SEGV $$\n', True)
+    tests.same('a program that a signal ends', room.run('tools/answer.py', program), (-signal.SIGSEGV, '', ''))
+    write(program, '#!/bin/sh\ncat\necho "chanhub: line 3: bad step" >&2\nexit 2\n', True)
+    with open(os.path.join(room.kit, 'journal'), 'w+') as journal:
+        journal.write('chanhub journal 1\nprocs 1\n0 mak 1\n')
+        journal.seek(0)
+        done = subprocess.run([room.path('tools', 'answer.py'), program, 'replay'], stdin=journal, capture_output=True, text=True, timeout=LONG)
+    tests.test('standard input is read again for a fault', done.returncode == 2 and done.stderr.startswith('chanhub: line 3: bad step\n./chanhub: line 3 is `0 mak 1`: '), done.stderr)
 
 
 @contextlib.contextmanager
@@ -294,15 +396,13 @@ def heard(child):
 
 def waits(tests, room):
     """Another build holds what is to be built."""
-    for name, *words in (('./chanhub', './chanhub', 'replay'), ('make -C capi', 'make', '-C', 'capi'), ('explain.sh', 'tools/explain.sh', 'scenario')):
+    for name, *words in (('./chanhub build', './chanhub', 'build'), ('make -C capi', 'make', '-C', 'capi')):
         time.sleep(0.1)
         write(room.path('crates', 'low', 'src', 'lib.rt'), '//! For %s.\n' % name)
         with locked(room, 'low'):
             child = room.start(*words)
             told = heard(child)
         child.communicate(timeout=LONG)
-        # What explain.sh explains stays.
-        end(*room.left())
         tests.test('%s says for what it waits' % name, told.count('\n') == 1 and 'waiting for another build' in told and 'crates/low' in told, told)
     room.build()
     with locked(room, 'low'):
@@ -315,15 +415,15 @@ def waits(tests, room):
     tests.same('what is built waits for nobody', child.returncode, 0)
 
 
-def interrupt(tests, room, number, *words, to_all=False):
-    """Ends a build while `high` is built, and looks at what is left."""
+def interrupt(tests, room, number, *words, to_all=False, at='high'):
+    """Ends a build while `high` is built, or another is compiled, and looks at what is left."""
     name = '%s ends by %s%s' % (words[0], number.name, ' to its group' if to_all else '')
     time.sleep(0.1)
     write(room.path('crates', 'low', 'src', 'lib.rt'), '//! For %s.\n' % name)
-    write(os.path.join(room.kit, 'slow'), 'high')
+    write(os.path.join(room.kit, 'slow'), at)
     write(room.log, '')
     child = room.start(*words)
-    room.wait_for('high')
+    room.wait_for(at)
     began = time.monotonic()
     (os.killpg if to_all else os.kill)(child.pid, number)
     try:
@@ -339,7 +439,7 @@ def interrupt(tests, room, number, *words, to_all=False):
     tests.same(name + ', and leaves no folder', left, [])
     end(ran, left)
     write(os.path.join(room.kit, 'slow'), '')
-    tests.same(name + ', and the next build goes on from there', room.build(), ['chanhub', 'high'])
+    tests.same(name + ', and the next build goes on from there', room.build(), ['chanhub', 'high'] if at == 'high' else ['chanhub', 'high', 'low'])
 
 
 def end(processes, folders):
@@ -353,10 +453,10 @@ def end(processes, folders):
 
 
 def interrupts(tests, room):
-    for words in (('tools/build.py', 'chanhub'), ('./chanhub', 'replay')):
+    for at, *words in (('high', 'tools/build.py', 'chanhub'), ('tried_chanhub', './chanhub', 'replay')):
         for number in (signal.SIGINT, signal.SIGTERM, signal.SIGHUP):
-            interrupt(tests, room, number, *words)
-        interrupt(tests, room, signal.SIGINT, *words, to_all=True)
+            interrupt(tests, room, number, *words, at=at)
+        interrupt(tests, room, signal.SIGINT, *words, to_all=True, at=at)
 
 
 def killed(tests, room):
@@ -433,7 +533,7 @@ def main():
         signal.signal(number, signal.SIG_DFL)
     with tempfile.TemporaryDirectory() as folder:
         room = Room(folder)
-        for part in (by_its_line, by_another, wrapper, waits, killed, interrupts, gate, makes_at_once, installs):
+        for part in (by_its_line, by_another, wrapper, from_sources, builds_both, answers, waits, killed, interrupts, gate, makes_at_once, installs):
             try:
                 part(tests, room)
             except (OSError, TypeError, subprocess.TimeoutExpired) as error:

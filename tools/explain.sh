@@ -2,7 +2,6 @@
 set -eu
 root=$(cd "$(dirname "$0")/.." && pwd)
 program=${CHANHUB:-$root/chanhub}
-tool=${TOOL:-$root/crates/chanhub_tool/out/chanhub_tool}
 
 usage() {
     cat <<'END'
@@ -38,7 +37,7 @@ if ! $is_well; then
 fi
 given=$1
 shift
-[ -n "${TOOL:-}" ] || "$root/tools/build.py" chanhub_tool
+tool=${TOOL:-$("$root/tools/ready.py" chanhub_tool)}
 
 # If anything fails, no file stays behind.
 folder=$(mktemp -d)

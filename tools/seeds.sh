@@ -1,7 +1,6 @@
 #!/bin/sh
 set -eu
 root=$(cd "$(dirname "$0")/.." && pwd)
-program=${CHANHUB:-$root/crates/chanhub/out/chanhub}
 
 usage() {
     cat <<'END'
@@ -28,10 +27,7 @@ fi
 scenario=$1
 seeds=$2
 folder=${3-}
-if [ ! -x "$program" ]; then
-    echo "seeds.sh: $program is not built: ./chanhub builds it" >&2
-    exit 2
-fi
+program=${CHANHUB:-$("$root/tools/ready.py" chanhub)}
 [ -z "$folder" ] || mkdir -p "$folder"
 
 work=$(mktemp -d)

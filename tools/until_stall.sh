@@ -1,7 +1,6 @@
 #!/bin/sh
 set -eu
 root=$(cd "$(dirname "$0")/.." && pwd)
-program=${CHANHUB:-$root/crates/chanhub/out/chanhub}
 
 usage() {
     cat <<'END'
@@ -25,10 +24,7 @@ if ! $is_well; then
 fi
 scenario=$1
 most=${2-1000}
-if [ ! -x "$program" ]; then
-    echo "until_stall.sh: $program is not built: ./chanhub builds it" >&2
-    exit 2
-fi
+program=${CHANHUB:-$("$root/tools/ready.py" chanhub)}
 
 folder=$(mktemp -d)
 trap 'rm -rf "$folder"' EXIT

@@ -1,7 +1,6 @@
 #!/bin/sh
 set -eu
 here=$(cd "$(dirname "$0")" && pwd)
-program=${CHANHUB:-$here/../../crates/chanhub/out/chanhub}
 
 usage() {
     cat <<'END'
@@ -21,10 +20,7 @@ if ! $is_well; then
     usage | head -n 1 >&2
     exit 2
 fi
-if [ ! -x "$program" ]; then
-    echo "count.sh: $program is not built: ./chanhub builds it" >&2
-    exit 2
-fi
+program=${CHANHUB:-$("$here/../../tools/ready.py" chanhub)}
 work=$(mktemp -d)
 trap 'rm -rf "$work"' EXIT
 

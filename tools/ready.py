@@ -1,0 +1,141 @@
+#!/usr/bin/env python3
+"""Finds or makes a program that answers by the sources as they are.
+
+    ready.py PROGRAM                    prints its path
+    ready.py --run PROGRAM WORDS..      runs it with these words, as `answer.py` does
+
+That is the built program where it is current, as `current.py` says. Else `rt try` compiles one in about a minute, with checks as it
+runs and without a proof; it stays until a source changes, and a line on standard error says what it is. Where `rt try` makes none,
+the program is proved and built. Status 125 where there is none in the end.
+"""
+import os
+import shutil
+import subprocess
+import sys
+import tempfile
+import time
+
+sys.dont_write_bytecode = True
+import answer
+import ending
+from build import bring_up_to_date, has_rt, hold
+from crates import LIST, ROOT, below, folder, read_crates
+from current import LAG, look, output, sources, time_of
+
+# how many minutes `./chanhub build` takes, by benches/README.md
+MINUTES = 10
+# by program, the command that reads the file which is named behind it
+READS = {'chanhub': 'run', 'chanhub_tool': 'story'}
+# of `rt try`, where the sources do not compile
+REFUSED = 1
+
+
+def tried(crate):
+    """Where the program stays that `rt try` compiled."""
+    return os.path.join(folder(ROOT, crate), 'out', 'tried')
+
+
+def is_tried(crate, crates):
+    """Whether that is as new as all that it was compiled from."""
+    return os.path.exists(tried(crate)) and time_of(tried(crate)) >= max(map(time_of, [LIST, *(path for it in {crate, *below(crate, crates)} for path in sources(it))]))
+
+
+def opened(gate, child):
+    """The pipe, once somebody reads from it; none where the child ends before."""
+    while child.poll() is None:
+        try:
+            return os.open(gate, os.O_WRONLY | os.O_NONBLOCK)
+        except OSError:
+            time.sleep(0.05)
+    return None
+
+
+def compile_unproved(crate, room, log):
+    """The program, which `rt try` does not keep: it is given a pipe to read, and is copied while it waits. None, and the status of `rt try`,
+    where that made none."""
+    gate = os.path.join(room, 'gate')
+    os.mkfifo(gate)
+    how = {'cwd': folder(ROOT, crate), 'env': {**os.environ, 'TMPDIR': room}, 'stdin': subprocess.DEVNULL, 'stdout': log, 'stderr': log}
+    with subprocess.Popen(['rt', 'try', crate, '--', READS[crate], gate], **how) as child:
+        end = opened(gate, child)
+        found = [os.path.join(place, 'program') for place, _, files in os.walk(room) if 'program' in files]
+        made = shutil.copy2(found[0], os.path.join(room, 'made')) if end is not None and found else None
+        if end is not None:
+            os.close(end)
+        child.terminate()
+    return made, child.returncode
+
+
+def keep(crate, began):
+    """Has the program compiled, and keeps it: the status of `rt try`, and what it said, where there is none."""
+    with tempfile.TemporaryDirectory(dir=os.path.dirname(tried(crate))) as room, open(os.path.join(room, 'log'), 'w+', errors='replace') as log:
+        made, status = compile_unproved(crate, room, log)
+        if made:
+            os.utime(made, ns=(began, began))
+            os.replace(made, tried(crate))
+            return None, ''
+        log.seek(0)
+        return status, log.read()
+
+
+def make(crate, crates):
+    """The path of a program that is made now, or none."""
+    ending.end_by_signals()
+    hold([os.path.dirname(tried(crate))], crate)
+    # Another call may have made it meanwhile.
+    status, said = (None, '') if is_tried(crate, crates) else keep(crate, time.time_ns() - LAG)
+    if status is None:
+        return tried(crate)
+    print(said, end='', file=sys.stderr)
+    if status == REFUSED:
+        return None
+    print(f'{crate}: rt try made no program, so it is proved and built', file=sys.stderr, flush=True)
+    return output(crate) if bring_up_to_date([crate], crates) else None
+
+
+def say(crate, how):
+    print(f'{crate}: {how}, checked as it runs, not proved: ./chanhub build proves it, in some {MINUTES} minutes', file=sys.stderr, flush=True)
+
+
+def ready(crate, crates):
+    """The path of the program, or none."""
+    if look(crate, crates, time.time_ns() - LAG) == 0:
+        return output(crate)
+    if is_tried(crate, crates):
+        say(crate, 'from sources')
+        return tried(crate)
+    if not has_rt(crate):
+        return None
+    say(crate, 'from sources, compiled in a minute')
+    os.makedirs(os.path.dirname(tried(crate)), exist_ok=True)
+    return make(crate, crates)
+
+
+def main():
+    words = sys.argv[1:]
+    runs = words[:1] == ['--run']
+    if runs:
+        del words[0]
+    if words in (['-h'], ['--help']):
+        print(__doc__, end='')
+        return 0
+    if not words or words[0] not in READS or not runs and len(words) > 1:
+        print('usage: ready.py [--run] PROGRAM [WORDS], with chanhub or chanhub_tool, and after --run its words', file=sys.stderr)
+        return 2
+    if runs and words[0] == 'chanhub' and answer.wrong_word(words[1:]):
+        # No program is needed to say so.
+        fault = b'chanhub: bad arguments\n'
+        answer.tell(fault + answer.more(fault, words[1:]))
+        return 2
+    program = ready(words[0], read_crates())
+    if program is None:
+        print(f'{words[0]}: not built', file=sys.stderr)
+        return 125
+    if not runs:
+        print(program)
+        return 0
+    ending.become(sys.executable, [sys.executable, '-IS', answer.__file__, program, *words[1:]])
+
+
+if __name__ == '__main__':
+    sys.exit(main())

@@ -5,6 +5,7 @@
 # it stands on. `./test` does not run this.
 # The last line counts: 'N passed, M failed'.
 set -u
+case ${1-} in -h | --help) sed -n '2,/^set /s/^# //p' "$0"; exit ;; esac
 root=$(cd "$(dirname "$0")/.." && pwd)
 out=${1:-$root/capi/out/aarch64}
 . "$root/tools/checks.sh"

@@ -151,10 +151,8 @@ def unwritten(words):
     for option, name in zip(words, words[1:]):
         if option in ('-o', '--output') or option == '--journal' and words[0] == 'explore':
             return name
-    try:
-        return 'standard output, %s' % os.readlink('/proc/self/fd/1')
-    except OSError:
-        return 'standard output is closed'
+    place = os.readlink('/proc/self/fd/1')
+    return 'standard output, %s' % ('which nobody reads' if place.startswith('pipe:') else place)
 
 
 def help_of_text(find, name, *known):
@@ -162,7 +160,7 @@ def help_of_text(find, name, *known):
     try:
         text = content(name)
     except OSError:
-        return 'the input is gone: where it is a file, this line says what is wrong with it'
+        return 'give the input as a file, as by < FILE, and this line says what is wrong with it'
     return find(text, *known)
 
 

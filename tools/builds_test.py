@@ -130,6 +130,7 @@ class Room:
         shutil.copy2(os.path.join(TREE, 'capi', 'Makefile'), self.path('capi', 'Makefile'))
         write(self.path('capi', 'chanhub.c'), 'int chanhub_open(void) { return 0; }\n')
         write(self.path('capi', 'chanhub.h'), 'int chanhub_open(void);\n')
+        shutil.copytree(os.path.join(TREE, 'capi', 'cmake'), self.path('capi', 'cmake'))
         os.makedirs(self.path('capi', 'python'))
         write(self.path('capi', 'python', 'chanhub_calls.c'), 'int PyInit_chanhub_calls(void) { return 0; }\n')
         for crate in LINES:
@@ -268,6 +269,10 @@ def by_another(tests, room):
 
 def wrapper(tests, room):
     tests.same('./chanhub runs the program with its words', room.run('./chanhub', 'run', 'a b'), (0, 'ran run a b\n', ''))
+    place = os.open(room.top, os.O_RDONLY)
+    done = subprocess.run([room.path('chanhub'), 'replay'], env=room.env(), stdin=place, capture_output=True, text=True, timeout=LONG)
+    os.close(place)
+    tests.same('./chanhub takes a folder for its input', (done.returncode, done.stdout, done.stderr), (0, 'ran replay\n', ''))
     # At some time: where the machine does other things, each may have to wait for the processor.
     spent = []
     while not spent or min(spent) >= 0.15 and len(spent) < 100:
@@ -514,6 +519,12 @@ def installs(tests, room):
     tests.test('make -C capi', status == 0, errors)
     status, _, errors = room.run('make', '-C', 'capi', 'install', 'PREFIX=' + room.path('there'), has_rt=False)
     tests.test('make install without rt', (status, errors) == (0, '') and os.path.exists(room.path('there', 'lib', 'libchanhub.a')), errors)
+    # As on a machine that has none, or another one.
+    write(os.path.join(room.kit, 'path', 'realpath'), '#!/bin/sh\nexit 1\n', True)
+    status, _, errors = room.run('make', '-C', 'capi', 'install', 'PREFIX=' + room.path('moved'))
+    os.remove(os.path.join(room.kit, 'path', 'realpath'))
+    found = read(room.path('moved', 'lib', 'cmake', 'chanhub', 'chanhub-config.cmake')) or ''
+    tests.test('make install without realpath', status == 0 and '"../../../include"' in found, (errors, found))
     # The libraries of C alone were kept.
     for crate in LINES:
         shutil.rmtree(room.path('crates', crate, 'out'), ignore_errors=True)

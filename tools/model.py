@@ -3,10 +3,44 @@
 
     model.py < JOURNAL
 
-It is a second reading of docs/SEMANTICS.md, slow and short, to compare the program with. It takes well-formed
-journals only, and keeps no limit on their length.
+It is a second reading of docs/SEMANTICS.md, slow and short, to compare the program with. It keeps no limit on the length of a
+journal.
 """
+import os
+import re
 import sys
+
+VALUE = '(?:[0-9]+|#(?:[0-9a-f]{2})*)'
+LINES = [re.compile(it) for it in (
+    'chanhub journal [12]', 'procs [0-9]+',
+    f'[0-9]+ (?:make [0-9]+|send [0-9]+ {VALUE}|recv [0-9]+|select [0-9]+(?: s[0-9]+:{VALUE}| r[0-9]+)*(?: default)?|close [0-9]+|exit|cancel [0-9]+)')]
+
+
+def end_with(text):
+    """Ends the script, and says why."""
+    sys.exit(f'{os.path.basename(sys.argv[0])}: {text}')
+
+
+def help_if_asked(text):
+    if sys.argv[1:] in (['-h'], ['--help']):
+        print(text.strip())
+        sys.exit()
+
+
+def lines_of(name=None):
+    """The lines of a journal, which this file holds, or standard input."""
+    what = name or 'standard input'
+    number = 0
+    try:
+        with open(0 if name is None else name, encoding='ascii', errors='surrogateescape', newline='\n') as file:
+            for number, line in enumerate(file, 1):
+                if not line.endswith('\n') or not LINES[min(number, len(LINES)) - 1].fullmatch(line[:-1]):
+                    end_with(f'{what}: line {number} is none of a journal')
+                yield line[:-1]
+    except OSError as error:
+        end_with(f'{what}: {error.strerror}')
+    if number < len(LINES) - 1:
+        end_with(f'{what}: line {number + 1} is none of a journal')
 
 
 class Hub:
@@ -168,7 +202,10 @@ def step(fields):
 
 
 def events_of(journal):
-    lines = journal.splitlines()
+    return events_of_lines(journal.splitlines())
+
+
+def events_of_lines(lines):
     hub = Hub(int(lines[0].split()[2]), int(lines[1].split()[1]))
     for line in lines[2:]:
         fields = line.split()
@@ -177,7 +214,8 @@ def events_of(journal):
 
 
 def main():
-    sys.stdout.write(''.join(event + '\n' for event in events_of(sys.stdin.read())))
+    help_if_asked(__doc__)
+    sys.stdout.write(''.join(event + '\n' for event in events_of_lines(list(lines_of()))))
 
 
 if __name__ == '__main__':

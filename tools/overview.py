@@ -185,10 +185,10 @@ def drawing(data):
 
 
 def main():
+    model.help_if_asked(__doc__)
     if len(sys.argv) != 2 or sys.argv[1].startswith("-"):
         sys.exit(__doc__.split("\n\n")[1])
-    with open(sys.argv[1], encoding="ascii") as journal:
-        data = Overview(journal)
+    data = Overview(model.lines_of(sys.argv[1]))
     print("\n".join(drawing(data)))
 
 

@@ -4,7 +4,7 @@
     page.py [FROM [TO]] JOURNAL > page.html
 
 It is a second reading of viewer/README.md, written from the lines of a journal and from the events that model.py gives of it, to
-compare `chanhub_tool page` with. It takes well-formed journals only.
+compare `chanhub_tool page` with.
 """
 import collections
 import pathlib
@@ -175,7 +175,7 @@ class Data:
     def passed(self, sender, item):
         """A step sent what another one received: if one of them is in the window, the other one is told, and by which steps they ended."""
         item.sender, ends = sender.place, {sender.place, item.step.place}
-        if not ends.isdisjoint(self.window):
+        if any(place in self.window for place in ends):
             self.told |= ends | {sender.by, item.step.by}
 
     def text(self, place, item):
@@ -213,14 +213,14 @@ def write_page(lines, write, window=None):
 
 
 def main():
+    model.help_if_asked(__doc__)
     *steps, name = sys.argv[1:] or [""]
     if not name or len(steps) > 2 or not all(step.isdigit() for step in steps) or name.startswith("-"):
         sys.exit(__doc__.split("\n\n")[1])
-    with open(name, encoding="ascii") as journal:
-        lines = journal.readlines()
+    lines = list(model.lines_of(name))
     window = [int(step) for step in steps]
     if window and not 1 <= window[0] <= window[-1] <= len(lines) - 2:
-        sys.exit("no such steps")
+        model.end_with("no such steps")
     write_page(lines, sys.stdout.write, (window[0], window[-1]) if window else None)
 
 

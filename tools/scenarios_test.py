@@ -1,10 +1,12 @@
 #!/usr/bin/env python3
 """scenarios_test.py PROGRAM [TOOL [MUTATIONS]]: tries the scripts here that look at scenarios and at their runs.
 
-That is lint_scenario.py, which has to agree with the program on every file, explain.sh, until_stall.sh, seeds.sh and report.py. A line
-for each test that fails; the last line counts: 'N passed, M failed'.
+That is lint_scenario.py, which has to agree with the program on every file, explain.sh, until_stall.sh, seeds.sh, report.py, what
+answer.py says of a fault, and what scripts say of -h and of files that they cannot read. A line for each test that fails; the last
+line counts: 'N passed, M failed'.
 """
 import glob
+import itertools
 import os
 import random
 import re
@@ -343,6 +345,89 @@ class Tests(Count):
         status, told, errors = self.script('seeds.sh', os.path.join(EXAMPLES, 'scenarios', 'limit_is_reached'), '2')
         self.test('seeds.sh counts no journal of a run that has none', status == 0 and 'chanhub: journal full' in told and told.endswith(' 0 different journals\n'))
 
+    def answered(self, words, **how):
+        done = subprocess.run([os.path.join(TOOLS, 'answer.py'), self.program, *words], stderr=subprocess.PIPE, timeout=LONG, **how)
+        return done.returncode, done.stderr.decode()
+
+    def answers(self):
+        """Behind the program's fault line stands one line more, which says what is wrong."""
+        missing, two, journal = self.path('missing'), self.path('two'), b'chanhub journal 1\nprocs 1\n'
+        text = b'ports = [9999]\nprocess = [{steps = ["recv x"]}]\n'
+        write(two, text)
+        full = os.path.join(EXAMPLES, 'scenarios', 'limit_is_reached')
+        for words, given, fault, helps in (
+            ([], b'', 'bad arguments', 'there is no command'),
+            (['runn'], b'', 'bad arguments', '`runn` is no command'),
+            (['run', '--jurnal'], b'', 'bad arguments', '`--jurnal` is no option of run'),
+            (['run', '--journal', '--journal'], b'', 'bad arguments', '`--journal` stands twice'),
+            (['run', two, 'b'], b'', 'bad arguments', '`b` is one word too many'),
+            (['run', b'\xff'], b'', 'bad arguments', '`\\xff` is not UTF-8'),
+            (['replay', two], b'', 'bad arguments', '`%s` is one word too many: replay reads standard input' % two),
+            (['verify', '--journal', two], b'', 'bad arguments', '`--journal` is no option of verify'),
+            (['verify'], b'', 'bad arguments', 'JOURNAL and EVENTS is missing'),
+            (['verify', two], b'', 'bad arguments', 'EVENTS is missing'),
+            (['verify', two, two, 'c'], b'', 'bad arguments', '`c` is one word too many'),
+            (['run', missing], b'', 'read failed', missing + ': No such file'),
+            (['run', self.folder], b'', 'read failed', self.folder + ': Is a directory'),
+            (['verify', two, missing], b'', 'read failed', missing + ': No such file'),
+            (['replay'], journal.replace(b'\n', b'\r\n'), 'line 1: bad header', 'line 1 ends with a carriage return (CRLF)'),
+            (['replay'], b'\xef\xbb\xbf' + journal, 'line 1: bad header', 'line 1 begins with a byte-order mark'),
+            (['replay'], b'', 'line 1: bad header', 'the journal ends before line 1'),
+            (['replay'], b'chanhub journal 1\nprocs 65\n', 'line 2: bad procs', 'line 2 is `procs 65`'),
+            (['replay'], journal + b'0 exit', 'line 3: cut line', 'line 3, the last, has no newline'),
+            (['replay'], journal + b'0 mak 1\n0 exit\n', 'line 3: bad step', 'line 3 is `0 mak 1`: a step is'),
+            (['replay'], journal + b'0 make 01\n', 'line 3: bad number', 'line 3 is `0 make 01`: a number'),
+            (['run', two], b'', 'scenario: bad ports', two + ':1:10: '),
+            (['run'], text, 'scenario: bad ports', 'standard input:1:10: '),
+            (['run', full], b'', 'journal full', 'the scripts ask for more steps'),
+        ):
+            write(self.path('given'), given)
+            with open(self.path('given')) as file:
+                status, told = self.answered(words, stdin=file, stdout=subprocess.DEVNULL)
+            wanted = subprocess.run([self.program, *words], input=given, capture_output=True)
+            is_same = (status, told.splitlines(keepends=True)[:1]) == (wanted.returncode, [wanted.stderr.decode()])
+            is_well = is_same and told.startswith('chanhub: %s\n./chanhub: %s' % (fault, helps)) and told.count('\n') == 2
+            self.test('answer.py helps with %s %s' % (words, given), is_well, told)
+        import answer
+        for words in (it for size in range(4) for it in itertools.product(('replay', 'run', 'verify', '--journal', '--', '-', missing), repeat=size)):
+            is_wrong = run([self.program, *words])[2] == 'chanhub: bad arguments\n'
+            self.test('answer.py agrees on the words %s' % (words,), bool(answer.wrong_word(words)) == is_wrong)
+        with open('/dev/full', 'wb') as file:
+            told = self.answered(['run', os.path.join(EXAMPLES, 'scenarios', 'ring')], stdout=file)
+        self.test('answer.py says what is not written', told == (1, 'chanhub: write failed\n./chanhub: standard output, /dev/full\n'), told)
+        told = self.answered(['replay'], input=b'chanhub journal 1\n', stdout=subprocess.DEVNULL)
+        self.test('answer.py cannot read a pipe again', told[0] == 2 and 'give the input as a file' in told[1], told)
+        for name in examples('scenarios'):
+            ran = subprocess.run([self.program, 'run', name], capture_output=True)
+            self.test('answer.py adds nothing to ' + name, ran.returncode in (1, 2) or self.answered(['run', name], stdout=subprocess.DEVNULL) == (ran.returncode, ''))
+
+    def refusals(self):
+        """No script meets a file by a traceback."""
+        for name in ('page.py', 'overview.py', 'windows.py'):
+            for path, why in ((self.path('missing'), 'No such file'), (self.folder, 'Is a directory'), ('/dev/null', 'line 1 is none of a journal'), (self.path('two'), 'line 1 is none')):
+                status, told, errors = self.script(name, path)
+                self.test('%s on %s' % (name, path), (status, told) == (1, '') and errors.startswith('%s: %s: %s' % (name, path, why)) and errors.count('\n') == 1, errors)
+        for name in ('model.py', 'story_model.py'):
+            done = subprocess.run([os.path.join(TOOLS, name)], input=b'chanhub journal 1\nprocs 1\n0 mak 1\n', capture_output=True)
+            self.test('%s on no journal' % name, (done.returncode, done.stdout, done.stderr) == (1, b'', name.encode() + b': standard input: line 3 is none of a journal\n'), done.stderr)
+        for name in ('explain.sh', 'page.py', 'overview.py', 'windows.py', 'until_stall.sh', 'seeds.sh', 'lint_scenario.py', 'aarch64.sh', 'soak.sh', 'trials.sh', 'build.py', 'ready.py', 'model.py', 'story_model.py'):
+            for word in ('-h', '--help'):
+                status, told, errors = self.script(name, word)
+                self.test('%s %s' % (name, word), (status, errors) == (0, '') and name in told or name == 'story_model.py' and told, (status, errors))
+
+    def passes_no_window(self):
+        """What a page tells of a value does not go through the steps of its window."""
+        import page
+        class Window:
+            def __init__(self, steps):
+                self.start, self.stop, self.has = steps.start, steps.stop, steps.__contains__
+            def __contains__(self, place):
+                return self.has(place)
+        data = page.Data(['chanhub journal 1', 'procs 1', '0 make 1', '0 send 1 5'], lambda text: None)
+        data.window = Window(data.window)
+        data.line(2, '0 recv 1')
+        self.test('page.py does not go through its window', {1, 2} <= data.told)
+
     def reports(self):
         """What a journal reports by report.py is what a run prints, where that is the same under each schedule."""
         for scenario in examples('scenarios'):
@@ -364,10 +449,10 @@ def main():
     signal.signal(signal.SIGINT, signal.default_int_handler)
     with tempfile.TemporaryDirectory() as folder:
         tests = Tests(program, tool, folder)
-        for part in (lambda: tests.lint_agrees(mutations), tests.lint_says_where, tests.explains, tests.explains_every_run, tests.stalls, tests.counts, tests.reports):
+        for part in (lambda: tests.lint_agrees(mutations), tests.lint_says_where, tests.explains, tests.explains_every_run, tests.stalls, tests.counts, tests.answers, tests.refusals, tests.passes_no_window, tests.reports):
             try:
                 part()
-            except ImportError as error:
+            except (ImportError, OSError, TypeError) as error:
                 tests.test(str(error), False)
     return tests.end()
 

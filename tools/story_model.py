@@ -277,7 +277,8 @@ def answer(entry):
 
 
 def main():
-    story = Story(sys.stdin.read())
+    model.help_if_asked(__doc__)
+    story = Story('\n'.join(model.lines_of()))
     first, last = (int(step) for step in sys.argv[1:3] or (1, len(story.entries)))
     sys.stdout.buffer.write(story.text(first, last))
 

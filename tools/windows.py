@@ -9,6 +9,7 @@ waits. A window has 60 steps, where the journal has them; what overlaps is one.
 import sys
 
 sys.dont_write_bytecode = True
+import model
 import overview
 
 STEPS = 60
@@ -36,10 +37,10 @@ def windows(data):
 
 
 def main():
+    model.help_if_asked(__doc__)
     if len(sys.argv) != 2 or sys.argv[1].startswith("-"):
         sys.exit(__doc__.split("\n\n")[1])
-    with open(sys.argv[1], encoding="ascii") as journal:
-        data = overview.Overview(journal)
+    data = overview.Overview(model.lines_of(sys.argv[1]))
     for first, last in windows(data):
         print(first + 1, last + 1)
 

@@ -40,7 +40,19 @@ struct followed {
     uint32_t line;   /* that line, from 1; else 0 */
 };
 
-/* Reads a piece of the text of a journal. */
+/* What a step of the journal that a hub follows is. A call of one case without a default is a send or a receive, whatever its choice word. */
+enum { STEP_MAKE = 1, STEP_SEND, STEP_RECV, STEP_SELECT, STEP_SELECT_DEFAULT, STEP_CLOSE, STEP_EXIT, STEP_CANCEL };
+
+/* A process's next step of that journal. All is 0 if there is none. */
+struct next {
+    uint32_t number; /* its number in the journal, from 1 */
+    uint8_t what;
+    uint8_t other; /* whom a cancel cancels; else 0 */
+    uint16_t port; /* of a send, a receive or a close; else 0 */
+};
+
+/* Reads a piece of a text: of the journal, of the chapter before the present one, of the one that waits, of the journal that is
+ * followed; or the line of the step at which the hub diverged from that, as piece 0. */
 typedef struct piece reader(struct hub *hub, uint64_t number, uint8_t *place, size_t room);
 
 uint8_t hub_c_open(struct hub *hub, uint8_t edition, uint8_t procs, uint32_t limit);
@@ -57,9 +69,11 @@ void hub_c_exit(struct hub *hub, uint8_t pid, struct told *told);
 void hub_c_cancel(struct hub *hub, uint8_t pid, uint8_t other, struct told *told);
 void hub_c_take(struct hub *hub, uint8_t pid, struct told *told);
 uint64_t hub_c_next(struct hub *hub); /* the process whose step is next, as a set */
+struct next hub_c_step_of(struct hub *hub, uint8_t pid);
+uint8_t hub_c_clock(struct hub *hub); /* the process that is the clock in the journal that is followed; 64 if there is none */
 chanhub_counts hub_c_look(struct hub *hub, uint16_t port);
 uint64_t hub_c_entries(struct hub *hub);
-reader hub_c_present, hub_c_before, hub_c_waiting;
+reader hub_c_present, hub_c_before, hub_c_waiting, hub_c_given, hub_c_asked;
 struct cut hub_c_cut(struct hub *hub);
 bool hub_c_let_go(struct hub *hub);
 
@@ -69,6 +83,7 @@ _Static_assert(sizeof(chanhub_value) == 48 && offsetof(chanhub_value, is_bytes) 
 _Static_assert(sizeof(chanhub_case) == 56 && offsetof(chanhub_case, port) == 2 && offsetof(chanhub_case, value) == 8, "");
 _Static_assert(sizeof(chanhub_told) == 56 && offsetof(chanhub_told, port) == 4 && offsetof(chanhub_told, value) == 8, "");
 _Static_assert(sizeof(struct told) == 72 && offsetof(struct told, ended) == 56 && offsetof(struct told, chapter) == 64, "");
+_Static_assert(sizeof(struct next) == 8 && offsetof(struct next, what) == 4 && offsetof(struct next, port) == 6, "");
 _Static_assert(sizeof(chanhub_counts) == 24 && offsetof(chanhub_counts, cap) == 4 && offsetof(chanhub_counts, sent) == 8, "");
 
 #endif

@@ -9,15 +9,16 @@ ghost use Rattle.std.specs.Prelude.{◌≡◌, None, Some};
 ghost use Rattle.hub_base.specs.Lines.{by};
 ghost use Rattle.hub_base.specs.Notation.{cancel, close, exit, make, recv};
 ghost use Rattle.hub_session.specs.Cuts.{Cuts, LetsGo};
-ghost use Rattle.hub_session.specs.Looks.{Looks, ReadsPiece, before_of, entries_of, next_bits, present_of, waiting_of};
+ghost use Rattle.hub_session.specs.Looks.{Looks, ReadsPiece, Stays, asked_of, before_of, clock_number, entries_of, given_of, next_bits, next_step, present_of, waiting_of};
+ghost use Rattle.hub_session.specs.Pieces.{Reads, only_line};
 ghost use Rattle.hub_session.specs.Opens.{OpensEndless, OpensFollowing, OpensSession};
 ghost use Rattle.hub_session.specs.Steps.{Steps, Takes};
 ghost use Rattle.hub_session.specs.Structs.{call_of, is_true, send_of};
 
 use hub_base::{Pid, Port, Step, StepRef};
 use hub_session::{
-    CaseC, CountsC, CutC, FollowC, HubC, PieceC, ToldC, ValueC, counts_told, is_true, no_piece,
-    open_box, open_endless_box, open_following_box, tell_bad_call,
+    CaseC, CountsC, CutC, FollowC, HubC, NO_CLOCK, NextC, PieceC, ToldC, ValueC, counts_told,
+    is_true, next_told, no_piece, open_box, open_endless_box, open_following_box, tell_bad_call,
 };
 use std::alloc::Global;
 
@@ -232,6 +233,36 @@ pub extern "C" fn hub_c_next(alloc: Global, hub: &mut HubC) -> u64
     next
 }
 
+/// A process's next step of the journal that the hub follows. All is 0 once it has diverged, where the journal has no further step
+/// of the process, and for a hub that follows none.
+#[unsafe(no_mangle)]
+pub extern "C" fn hub_c_step_of(alloc: Global, hub: &mut HubC, pid: u8) -> NextC
+    ensures step { result ≡ next_step hub.old.session pid }
+    ensures unchanged { hub.new.session ≡ hub.old.session }
+{
+    let Some(session) = hub.take_out(alloc) else {
+        return next_told(None);
+    };
+    let next = session.step_of(pid);
+    hub.put_in(session);
+    next
+}
+
+/// The number of the clock's process in the journal that the hub follows: of the process that waits on port 0 while no call has a
+/// deadline, and cancels calls whose deadlines have passed. `NO_CLOCK`, 64, if that has none, and for a hub that follows none.
+#[unsafe(no_mangle)]
+pub extern "C" fn hub_c_clock(alloc: Global, hub: &mut HubC) -> u8
+    ensures clock { result ≡ clock_number hub.old.session }
+    ensures unchanged { hub.new.session ≡ hub.old.session }
+{
+    let Some(session) = hub.take_out(alloc) else {
+        return NO_CLOCK;
+    };
+    let clock = session.clock();
+    hub.put_in(session);
+    clock
+}
+
 /// How many entries the journal has. Of a hub that never ends it is the present chapter.
 #[unsafe(no_mangle)]
 pub extern "C" fn hub_c_entries(alloc: Global, hub: &mut HubC) -> u64
@@ -300,6 +331,45 @@ pub extern "C" fn hub_c_waiting(
         return no_piece();
     };
     let told = session.read_waiting(number, place);
+    hub.put_in(session);
+    told
+}
+
+/// The same of the journal that the hub follows.
+#[unsafe(no_mangle)]
+#[tactic(auto, using(crate::proofs::Texts::pieces_are_text))]
+pub extern "C" fn hub_c_given(
+    alloc: Global,
+    hub: &mut HubC,
+    number: u64,
+    place: &mut [u8],
+) -> PieceC
+    ensures { ReadsPiece hub.old.session (given_of hub.old.session) number hub.new.session place.old place.new result }
+{
+    let Some(mut session) = hub.take_out(alloc) else {
+        return no_piece();
+    };
+    let told = session.read_given(number, place);
+    hub.put_in(session);
+    told
+}
+
+/// Writes the line of the step at which the hub diverged from the journal that it follows, in the same way, as piece 0 of a text
+/// that has no other. There is none as long as no step was told as a divergence.
+#[unsafe(no_mangle)]
+pub extern "C" fn hub_c_asked(
+    alloc: Global,
+    hub: &mut HubC,
+    number: u64,
+    place: &mut [u8],
+) -> PieceC
+    ensures reads { Reads (only_line (asked_of hub.old.session) number) place.old place.new result }
+    ensures stays { Stays hub.old.session hub.new.session }
+{
+    let Some(mut session) = hub.take_out(alloc) else {
+        return no_piece();
+    };
+    let told = session.read_asked(number, place);
     hub.put_in(session);
     told
 }

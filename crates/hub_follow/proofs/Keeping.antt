@@ -1,14 +1,13 @@
 -- What a hub that follows keeps, and how it makes the next step of the journal.
-use Rattle.std.proofs.Common.{◌≡◌, ◌∙◌, ◌+◌, ◌≤◌, ◌<◌, ℕ, Bool, true, List, [], ◌∷◌, ◌++◌, Option, Some, None, refl, ap, sym, subst, arith}
+use Rattle.std.proofs.Common.{◌≡◌, ◌∙◌, ◌+◌, ◌≤◌, ◌<◌, ℕ, Bool, List, [], ◌∷◌, ◌++◌, Option, Some, None, refl, ap, sym, subst, arith}
 use Rattle.std.proofs.Common.{length, take, drop, suc, cond, inl, inr, eq-eqb}
 use Rattle.std.specs.Prelude.{slice_get, IfSome, Result, Ok, Err}
 use Rattle.std.proofs.lemmas.List.{length_push}
 use Rattle.std.proofs.lemmas.Option.{slice_get_within}
 use Rattle.hub_base.specs.Entry.{Entry, Step}
 use Rattle.hub_base.specs.declared.entry.Step.TheVariants.{Make, Call, Close, Exit, Cancel}
-use Rattle.hub_base.specs.declared.head.Edition.{Edition}
 use Rattle.hub_base.specs.declared.value.Pid.{Pid}
-use Rattle.hub_base.specs.Head.{is_of}
+use Rattle.hub_base.specs.Head.{AreOf}
 use Rattle.hub_base.specs.declared.event.Event.{Event}
 use Rattle.hub_base.specs.declared.fault.Fault.{Fault}
 use Rattle.hub_base.specs.declared.fault.Fault.TheVariants as fault
@@ -21,15 +20,15 @@ use Rattle.hub_laws.proofs.Journals.{begins-law}
 use Rattle.hub_laws.proofs.Totals.{take_next}
 use Rattle.hub_core.specs.declared.terms.Terms.{Terms}
 use Rattle.hub_core.specs.HubView.{HubView, IsFullFor, Refuses, opened_hub, with_entry}
-use Rattle.hub_live.specs.Locked.{LockedView, Serves, ServesStep, none_waits}
+use Rattle.hub_live.specs.Locked.{LockedView, Serves, ServesStep, none_waits, without_answer}
 use Rattle.hub_chain.specs.Chains.{MakesText}
 use Rattle.hub_chain.proofs.Places.{around, steps_there}
 use Rattle.hub_follow.specs.declared.follower.AfterDivergence.{AfterDivergence}
-use Rattle.hub_follow.specs.declared.follower.AfterDivergence.TheVariants.{GoesOn, Ends}
+use Rattle.hub_follow.specs.declared.follower.AfterDivergence.TheVariants.{GoesOn}
 use Rattle.hub_follow.specs.declared.follower.Stand.TheVariants.{Early, Other}
 use Rattle.hub_follow.specs.declared.not_made.NotMade.{NotMade}
 use Rattle.hub_follow.specs.declared.not_made.NotMade.TheVariants.{Refused, NotYet, Diverged}
-use Rattle.hub_follow.specs.Follow.{FollowKeeps, FollowView, FollowsStep, IsAdmitted, IsAt, IsBeginning, IsDue, IsFree, IsNext, diverged_at, made}
+use Rattle.hub_follow.specs.Follow.{FollowKeeps, FollowView, FollowsStep, IsAdmitted, IsAt, IsBeginning, IsDue, IsFree, IsNext, diverged_at, diverged_by, made}
 use Rattle.hub_follow.specs.Follow.{FollowsAnew, follow_view, number_of, step_with, turn_of, with_locked, with_word}
 use Rattle.hub_follow.specs.Stands.{Passes, Stands}
 use Rattle.hub_follow.specs.Stands.{is_of as is_of_pid}
@@ -81,6 +80,8 @@ keeps_next l e now answer keeps next serves =
       legal = rw terms keeps.legal;
       room = rw terms keeps.room;
       few = keeps.few;
+      fits = rw terms keeps.fits;
+      asked_fits = rw terms keeps.asked_fits;
       begins = λ none. begins_next l e now keeps next serves.step.journal;
     }
 
@@ -96,14 +97,6 @@ still l now keeps is none = subst IsBeginning (sym (same l now is)) (keeps.begin
 -- the word makes no difference to who makes the step,
 pub next_admitted : (l : FollowView) (e : Entry) → FollowKeeps l → IsNext l e → IsAdmitted l e
 next_admitted l e keeps next = due_admitted l (with_word next.0 e) keeps next.1
-
--- to the edition that has it,
-pub of_edition : (edition : Edition) (word : ℕ) (s : Step) → is_of edition s ≡ true → is_of edition (step_with word s) ≡ true
-of_edition edition word (Make cap) is = is
-of_edition edition word (Call cases default own) is = is
-of_edition edition word (Close p) is = is
-of_edition edition word Exit is = is
-of_edition edition word (Cancel q) is = is
 
 -- and to the memory that it takes
 refused_so : (h : HubView) (pid : Pid) (s : Step) (word : ℕ) (f : Fault) → Refuses h (record { pid = pid; step = step_with word s }) f
@@ -184,36 +177,6 @@ goes_on l e now answer free after serves =
       next = λ next. absurd (not_free l e next free);
     }
 
-pub goes_not : (l : FollowView) (e : Entry) (now : LockedView) (why : NotMade) → FollowKeeps l → IsFree l → l.after ≡ GoesOn
-    → Passes l.locked e now (Err why) → FollowsStep l e (with_locked now l) (Err why)
-goes_not l e now (Refused f) keeps free after passes =
-    record {
-      does = (inr (inr (free, after)), passes.0, same l now passes.1);
-      begins = still l now keeps passes.1;
-      next = λ next. absurd (not_free l e next free);
-    }
-goes_not l e now other keeps free after passes = absurd passes
-
-pub ends : (l : FollowView) (e : Entry) → IsAdmitted l e → IsFree l → l.after ≡ Ends
-    → FollowsStep l e (diverged_at (number_of l) l) (Err (Diverged (number_of l)))
-ends l e admitted free after =
-    record {
-      does = (inr (admitted, free, after, refl), refl);
-      begins = λ none. absurd (cc);
-      next = λ next. absurd (not_free l e next free);
-    }
-
--- what a hub keeps that has diverged
-pub keeps_diverged : (l : FollowView) (number : ℕ) → FollowKeeps l → FollowKeeps (diverged_at number l)
-keeps_diverged l number keeps =
-    record { legal = keeps.legal; room = keeps.room; few = keeps.few; begins = λ none. absurd (cc) }
-
-pub keeps_goes_on : (l : FollowView) (e : Entry) (now : LockedView) (answer : Event) → FollowKeeps l
-    → ServesStep l.locked e now (Ok answer) → FollowKeeps (diverged_at (number_of l) (with_locked now l))
-keeps_goes_on l e now answer keeps serves =
-    let terms = ap (λ (h : HubView). h.terms) serves.ok.step.journal in
-    record { legal = rw terms keeps.legal; room = rw terms keeps.room; few = keeps.few; begins = λ none. absurd (cc) }
-
 -- ---- a step that is not next
 
 -- where the next step is this, it is its process's next
@@ -233,7 +196,7 @@ early l e keeps admitted following stands =
     }
 
 pub other : (l : FollowView) (e : Entry) (number : ℕ) → IsAdmitted l e → l.diverged ≡ None → Stands l e (Other number)
-    → FollowsStep l e (diverged_at number l) (Err (Diverged number))
+    → FollowsStep l e (diverged_by e number l) (Err (Diverged number))
 other l e number admitted following stands =
     record {
       does = (
@@ -253,20 +216,33 @@ other l e number admitted following stands =
           absurd (stands.2 (next.0, ap (slice_get l.given) (sym here) ∙ next.1.at));
     }
 
+-- ---- an answer is taken
+
+pub keeps_taken : (l : FollowView) (q : ℕ) → FollowKeeps l → FollowKeeps (with_locked (without_answer l.locked q) l)
+keeps_taken l q keeps =
+    record {
+      legal = keeps.legal;
+      fits = keeps.fits;
+      asked_fits = keeps.asked_fits;
+      room = keeps.room;
+      few = keeps.few;
+      begins = keeps.begins;
+    }
+
 -- ---- the opening
 
 -- what a hub keeps at which nothing has happened
 pub keeps_opened : (after : AfterDivergence) (given : HubView) (locked : LockedView) → IsLegal given.terms.head given.journal
-    → steps_of given.journal ≤ given.terms.limit → length given.journal ≤ MOST_BYTES → locked ≡ none_waits (opened_hub given.terms)
-    → FollowKeeps (follow_view locked given.journal after None)
-keeps_opened after given locked legal room few is =
-    subst (λ (l : LockedView). FollowKeeps (follow_view l given.journal after None)) (sym is)
-    (record { legal = legal; room = room; few = few; begins = λ none. refl })
+    → AreOf given.terms.head.edition given.journal → steps_of given.journal ≤ given.terms.limit → length given.journal ≤ MOST_BYTES → locked ≡ none_waits (opened_hub given.terms)
+    → FollowKeeps (follow_view locked given.journal after None None)
+keeps_opened after given locked legal fits room few is =
+    subst (λ (l : LockedView). FollowKeeps (follow_view l given.journal after None None)) (sym is)
+    (record { legal = legal; fits = fits; asked_fits = tt; room = room; few = few; begins = λ none. refl })
 
 -- what is told of it
 pub opened : (text : List ℕ) (after : AfterDivergence) (given : HubView) (l : FollowView) → MakesText text given
-    → l.locked ≡ none_waits (opened_hub given.terms) → l.given ≡ given.journal → l.after ≡ after → l.diverged ≡ None → FollowsAnew text after l
-opened text after given l makes is same after_is none =
+    → l.locked ≡ none_waits (opened_hub given.terms) → l.given ≡ given.journal → l.after ≡ after → l.diverged ≡ None → l.asked ≡ None → FollowsAnew text after l
+opened text after given l makes is same after_is none unasked =
     let terms : l.locked.hub.terms ≡ given.terms = ap (λ (k : LockedView). k.hub.terms) is in
     record {
       spelled = rw (terms, same) makes.spelled;
@@ -275,4 +251,5 @@ opened text after given l makes is same after_is none =
       nothing = is ∙ ap (λ (t : Terms). none_waits (opened_hub t)) (sym terms);
       after_is = after_is;
       none = none;
+      unasked = unasked;
     }

@@ -12,7 +12,7 @@ abbrev pub turn : Pid → ℕ → List Entry → Option ℕ
 turn pid n es = position_from (λ e. e.pid.0 == pid.0) n (drop n es)
 
 -- what stands from a place on
-left : (n : ℕ) (es : List Entry) → n < length es → (e : Entry) × (slice_get es n ≡ Some e) × (drop n es ≡ e ∷ drop (suc n) es)
+pub left : (n : ℕ) (es : List Entry) → n < length es → (e : Entry) × (slice_get es n ≡ Some e) × (drop n es ≡ e ∷ drop (suc n) es)
 left n [] within = absurd (omega arith)
 left zero (f ∷ fs) within = (f, refl, refl)
 left (suc n) (f ∷ fs) within = left n fs (omega arith)

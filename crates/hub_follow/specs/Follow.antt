@@ -1,6 +1,6 @@
 -- What contracts see of a hub that follows a journal, how a step stands to that journal, and what a step does.
 use Rattle.std.specs.Prelude.{◌≡◌, ◌≤◌, ◌<◌, ◌+◌, ◌==◌, ◌⊎◌, ◌∷◌, ℕ, List, length, take, drop, slice_get}
-use Rattle.std.specs.Prelude.{Option, None, Some, IfSome, unwrap_or, Result, Ok, Err}
+use Rattle.std.specs.Prelude.{Option, None, Some, IfSome, unwrap_or, option_and_then, Result, Ok, Err, true}
 use Rattle.std.specs.List.{position_from}
 use Rattle.std.specs.Option.{option_map}
 use Rattle.hub_base.specs.Entry.{Entry, Step}
@@ -9,6 +9,7 @@ use Rattle.hub_base.specs.declared.event.Event.{Event}
 use Rattle.hub_base.specs.declared.fault.Fault.TheVariants as fault
 use Rattle.hub_base.specs.declared.limits.TheConstants.{MOST_BYTES, MOST_STEPS}
 use Rattle.hub_base.specs.declared.value.Pid.{Pid}
+use Rattle.hub_base.specs.Head.{AreOf, is_of}
 use Rattle.hub_base.specs.Runs.{moves, state}
 use Rattle.hub_base.specs.Steps.{refusal}
 use Rattle.hub_base.specs.Text.{IsText, steps_of}
@@ -30,9 +31,12 @@ pub record FollowView : Type 0 where
   pub after : AfterDivergence
   -- the number of the step at which it diverged, if it did
   pub diverged : Option ℕ
+  -- the step that was the first to be a divergence, if one was
+  pub asked : Option Entry
 
-abbrev pub follow_view : LockedView → List Entry → AfterDivergence → Option ℕ → FollowView
-follow_view locked given after diverged = record { locked = locked; given = given; after = after; diverged = diverged }
+abbrev pub follow_view : LockedView → List Entry → AfterDivergence → Option ℕ → Option Entry → FollowView
+follow_view locked given after diverged asked =
+    record { locked = locked; given = given; after = after; diverged = diverged; asked = asked }
 
 -- how many steps it has made
 abbrev pub made : FollowView → ℕ
@@ -42,10 +46,16 @@ made l = length l.locked.hub.journal
 abbrev pub IsBeginning : FollowView → Type 0
 IsBeginning l = l.locked.hub.journal ≡ take (made l) l.given
 
--- what every such hub keeps: the journal that it follows is legal, and the hub has room for it; and as long as nothing has
--- diverged, what it has made is a beginning of that
+-- a journal of its edition can have this entry
+abbrev pub IsOfIts : FollowView → Entry → Type 0
+IsOfIts l e = is_of l.locked.hub.terms.head.edition e.step ≡ true
+
+-- what every such hub keeps: the journal that it follows is legal and of its edition, and the hub has room for it; and as long
+-- as nothing has diverged, what it has made is a beginning of that
 pub record FollowKeeps (l : FollowView) : Type 0 where
   pub legal : IsLegal l.locked.hub.terms.head l.given
+  pub fits : AreOf l.locked.hub.terms.head.edition l.given
+  pub asked_fits : IfSome l.asked (IsOfIts l)
   pub room : steps_of l.given ≤ l.locked.hub.terms.limit
   pub few : length l.given ≤ MOST_BYTES
   pub begins : l.diverged ≡ None → IsBeginning l
@@ -58,6 +68,7 @@ pub record FollowsAnew (text : List ℕ) (after : AfterDivergence) (l : FollowVi
   pub nothing : l.locked ≡ none_waits (opened_hub l.locked.hub.terms)
   pub after_is : l.after ≡ after
   pub none : l.diverged ≡ None
+  pub unasked : l.asked ≡ None
 
 -- ---- whose turn it is
 
@@ -85,14 +96,22 @@ turn_of l pid = position_from (λ e. e.pid.0 == pid.0) (made l) (drop (made l) l
 abbrev pub IsOver : FollowView → Type 0
 IsOver l = length l.given ≤ made l
 
--- whose entry this is, unless it has diverged
-abbrev pub next_unless : Option ℕ → Option Entry → Option Pid
-next_unless None next = option_map (λ e. e.pid) next
-next_unless (Some number) next = None
+-- what there is, unless it has diverged
+abbrev pub unless : {A : Type 0} → Option ℕ → Option A → Option A
+unless None there = there
+unless (Some number) there = None
 
 -- whose step is next, while it follows
 abbrev pub next_of : FollowView → Option Pid
-next_of l = next_unless l.diverged (slice_get l.given (made l))
+next_of l = unless l.diverged (option_map (λ e. e.pid) (slice_get l.given (made l)))
+
+-- the entry at this place, with its number, from 1
+abbrev pub numbered : List Entry → ℕ → Option (ℕ × Entry)
+numbered es place = option_map (λ e. (place + 1, e)) (slice_get es place)
+
+-- a process's next entry in the journal, with its number, while it follows
+abbrev pub step_of : FollowView → Pid → Option (ℕ × Entry)
+step_of l pid = unless l.diverged (option_and_then (numbered l.given) (turn_of l pid))
 
 -- ---- how a step stands to the journal
 
@@ -148,9 +167,18 @@ Diverges l e number =
 abbrev pub with_locked : LockedView → FollowView → FollowView
 with_locked locked l = record l { locked = locked }
 
--- it has diverged at this step
+-- it has diverged at the step of this number
 abbrev pub diverged_at : ℕ → FollowView → FollowView
 diverged_at number l = record l { diverged = Some number }
+
+-- this step is a divergence; one that was before stays the first
+abbrev pub first_asked : Option Entry → Entry → Option Entry
+first_asked None e = Some e
+first_asked (Some first) e = Some first
+
+-- it has diverged at the step of this number, as this one was asked for
+abbrev pub diverged_by : Entry → ℕ → FollowView → FollowView
+diverged_by e number l = record l { diverged = Some number; asked = first_asked l.asked e }
 
 -- it is the next step, and was made as the journal has it
 pub record GoesOnward (old : FollowView) (e : Entry) (new : FollowView) (answer : Event) : Type 0 where
@@ -172,7 +200,7 @@ abbrev pub Does : FollowView → Entry → FollowView → Result Event NotMade �
 Does old e new (Ok answer) = GoesOnward old e new answer ⊎ GoesFreely old e new answer
 Does old e new (Err (Refused f)) = IsLet old e × Refuses old.locked.hub e f × (new ≡ old)
 Does old e new (Err NotYet) = IsEarly old e × (new ≡ old)
-Does old e new (Err (Diverged number)) = Diverges old e number × (new ≡ diverged_at number old)
+Does old e new (Err (Diverged number)) = Diverges old e number × (new ≡ diverged_by e number old)
 
 -- the answer is the one that the journal has recorded: the first event of its next entry, when the journal is made again
 pub record IsRecorded (l : FollowView) (answer : Event) : Type 0 where

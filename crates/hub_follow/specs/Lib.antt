@@ -1,2 +1,3 @@
+pub mod Clock
 pub mod Follow
 pub mod Stands

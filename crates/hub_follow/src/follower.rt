@@ -5,18 +5,21 @@
 
 ghost use Rattle.std.specs.Prelude.{◌≡◌, ◌<◌, ◌≤◌, ◌==◌, ℕ, IfOk, IfErr, IfSome, IfNone, None, Some, Err, true, length, drop, slice_get};
 ghost use Rattle.std.specs.List.{position_from};
-ghost use Rattle.hub_base.specs.Head.{is_of};
+ghost use Rattle.hub_base.specs.Head.{AreOf, is_of};
 ghost use Rattle.hub_base.specs.declared.limits.TheConstants.{MOST_BYTES};
 ghost use Rattle.hub_core.specs.HubView.{opened_hub};
+ghost use Rattle.hub_laws.specs.Journals.{IsLegal};
 ghost use Rattle.hub_live.specs.Locked.{IsReplyTo, answer_for, none_waits, without_answer};
 ghost use Rattle.hub_chain.specs.Faults.{IsNotLegal};
-ghost use Rattle.hub_follow.specs.Follow.{FollowsAnew, FollowsStep, IsAdmitted, IsBeginning, IsDue, IsFree, diverged_at, next_of, number_of, with_locked, with_word};
+ghost use Rattle.hub_follow.specs.Clock.{clock_of};
+ghost use Rattle.hub_follow.specs.Follow.{FollowsAnew, FollowsStep, IsAdmitted, IsBeginning, IsDue, IsFree, IsOfIts, diverged_by, next_of, number_of, step_of, with_locked, with_word};
 ghost use Rattle.hub_follow.specs.Stands.{Passes, Stands, word_of};
 ghost use Rattle.hub_follow.specs.Stands.{is_of as is_entry_of};
 ghost use Rattle.hub_follow.specs.declared.not_made.NotMade.TheVariants.{Diverged, NotYet};
 
 use crate::NotMade;
-use hub_base::{CaseSlice, EntryRef, Event, Pid, Step};
+use crate::clock::keeps_time;
+use hub_base::{CaseSlice, Entry, EntryRef, Event, Pid, Step};
 use hub_chain::{ChainFault, is_same_entry, read_hub};
 use hub_core::{Hub, ShortHub};
 use hub_live::under_lock::Locked;
@@ -133,6 +136,8 @@ pub struct Follower {
     after: AfterDivergence,
     /// The number of the step at which it diverged, if it did.
     diverged: Option<u32>,
+    /// The step that was the first to be a divergence, if one was.
+    asked: Option<Entry>,
 }
 
 impl Model for Follower {
@@ -140,9 +145,9 @@ impl Model for Follower {
 
     ghost Value = { FollowView };
 
-    ghost view = { λ l. follow_view l.hub l.given.memory.hub.journal l.after l.diverged };
+    ghost view = { λ l. follow_view l.hub l.given.memory.hub.journal l.after l.diverged l.asked };
 
-    ghost invariant = { λ l. FollowKeeps (follow_view l.hub l.given.memory.hub.journal l.after l.diverged) };
+    ghost invariant = { λ l. FollowKeeps (follow_view l.hub l.given.memory.hub.journal l.after l.diverged l.asked) };
 }
 
 impl Follower {
@@ -172,6 +177,7 @@ impl Follower {
         ensures given { result.given ≡ given.memory.hub.journal }
         ensures after { result.after ≡ after }
         ensures none { result.diverged ≡ None }
+        ensures unasked { result.asked ≡ None }
     {
         given.journal_is_legal();
         Follower {
@@ -179,6 +185,7 @@ impl Follower {
             given,
             after,
             diverged: None,
+            asked: None,
         }
     }
 
@@ -200,7 +207,7 @@ impl Follower {
         match self.stand(entry) {
             Stand::Next(word) => self.step_next(entry, word),
             Stand::Early => self.not_yet(),
-            Stand::Other(number) => self.diverge(number),
+            Stand::Other(number) => self.diverge(entry, number),
             Stand::Over => self.step_freely(entry),
         }
     }
@@ -250,7 +257,7 @@ impl Follower {
     {
         let number = self.number();
         match self.after {
-            AfterDivergence::Ends => self.diverge(number),
+            AfterDivergence::Ends => self.diverge(entry, number),
             AfterDivergence::GoesOn => {
                 let answer = pass(&mut self.hub, entry)?;
                 self.diverged = Some(number);
@@ -277,12 +284,16 @@ impl Follower {
         Err(NotMade::NotYet)
     }
 
-    /// It diverges at the step of this number.
-    fn diverge(&mut self, number: u32) -> Result<Event, NotMade>
-        ensures diverged { self.new ≡ diverged_at number self.old }
+    /// It diverges at the step of this number, as this one is asked for.
+    fn diverge(&mut self, entry: &EntryRef<'_>, number: u32) -> Result<Event, NotMade>
+        requires fits { is_of self.old.locked.hub.terms.head.edition entry.now.step ≡ true }
+        ensures diverged { self.new ≡ diverged_by entry.now number self.old }
         ensures told { result ≡ Err (Diverged number) }
     {
         self.diverged = Some(number);
+        if self.asked.is_none() {
+            self.asked = Some(entry.to_owned());
+        }
         Err(NotMade::Diverged(number))
     }
 
@@ -303,6 +314,54 @@ impl Follower {
         ensures begins { self.now.diverged ≡ None → IsBeginning self.now }
     {
         self.diverged
+    }
+
+    /// The step that was the first to be a divergence. None as long as `step` has told of no divergence.
+    pub fn asked(&self) -> Option<Entry>
+        ensures asked { result ≡ self.now.asked }
+        ensures fits { IfSome result (IsOfIts self.now) }
+    {
+        self.asked.as_ref().map(Entry::copy)
+    }
+
+    /// A process's next step of the journal, and its number, from 1. None once the hub has diverged, and where the journal has no
+    /// further step of the process.
+    pub fn step_of(&self, pid: Pid) -> Option<(u32, Entry)>
+        ensures { result ≡ step_of self.now pid }
+    {
+        let None = self.diverged else {
+            return None;
+        };
+        let place = turn_from(&self.given, self.hub.len(), pid)?;
+        let entry = self.given.entry(place)?;
+        Some((place as u32 + 1, entry))
+    }
+
+    /// The entry at this place of the journal that is followed, counted from 0; `None` behind the last. The journal is legal:
+    /// each of its entries is admitted where it stands.
+    pub fn given(&self, place: usize) -> Option<Entry>
+        ensures entry { result ≡ slice_get self.now.given place }
+        ensures legal { IsLegal self.now.locked.hub.terms.head self.now.given }
+        ensures fits { AreOf self.now.locked.hub.terms.head.edition self.now.given }
+    {
+        self.given.entry(place)
+    }
+
+    /// The clock of the journal that is followed, if it has one: the process that waits on port 0 while no call has a deadline,
+    /// and cancels calls whose deadlines have passed.
+    pub fn clock(&self) -> Option<Pid>
+        ensures { result ≡ clock_of self.now.locked.hub.terms.head self.now.given }
+    {
+        let head = self.hub.head();
+        if !head.edition.has_cancel() || head.procs <= 1 {
+            return None;
+        }
+        let last = Pid(head.procs - 1);
+        if keeps_time(last, &self.given) {
+            Some(last)
+        } else {
+            None
+        }
     }
 
     /// Takes out the answer that waits for a process, as `Locked::take` does.

@@ -6,6 +6,7 @@
 //! answer is the recorded one.
 #![tactic(auto)]
 
+mod clock;
 mod follower;
 mod not_made;
 

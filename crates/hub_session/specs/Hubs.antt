@@ -46,6 +46,12 @@ before_in (Limited l) = None
 before_in (Endless l) = option_map journal_of l.recorder.before
 before_in (Following l) = None
 
+-- the journal that the hub follows, where it follows one
+abbrev pub given_in : Opened → Option JournalView
+given_in (Limited l) = None
+given_in (Endless l) = None
+given_in (Following l) = Some (record { head = l.locked.hub.terms.head; entries = l.given })
+
 -- the chapter that waits to be read, where one does
 abbrev pub waiting_in : Option ShortInMemory → Option JournalView
 waiting_in chapter = option_map (λ c. journal_of (hub_in c)) chapter

@@ -1,18 +1,22 @@
 -- What C reads of a hub, which stays as it is.
-use Rattle.std.specs.Prelude.{◌≡◌, ℕ, List, length, Option, None, Some, option_and_then}
+use Rattle.std.specs.Prelude.{◌≡◌, ℕ, List, length, Option, None, Some, IfSome, option_and_then}
 use Rattle.std.specs.Option.{option_map, option_map_or}
+use Rattle.hub_base.specs.Entry.{Entry}
 use Rattle.hub_base.specs.Journal.{JournalView}
 use Rattle.hub_base.specs.Notation.{port}
 use Rattle.hub_cut.specs.declared.totals.Totals.{Totals}
-use Rattle.hub_follow.specs.Follow.{next_of}
+use Rattle.hub_follow.specs.Clock.{clock_of}
+use Rattle.hub_follow.specs.Follow.{next_of, step_of}
 use Rattle.hub_session.specs.declared.session.Opened.{Opened}
 use Rattle.hub_session.specs.declared.session.Opened.TheVariants.{Following}
 use Rattle.hub_session.specs.declared.session.Session.{Session}
 use Rattle.hub_session.specs.declared.structs.CountsC.{CountsC}
+use Rattle.hub_session.specs.declared.structs.NextC.{NextC}
 use Rattle.hub_session.specs.declared.structs.PieceC.{PieceC}
-use Rattle.hub_session.specs.Hubs.{IsLook, before_in, present_in, waiting_in}
-use Rattle.hub_session.specs.Pieces.{AreText, Reads, piece_in}
-use Rattle.hub_session.specs.Tells.{bit_of, counts_told}
+use Rattle.hub_session.specs.declared.structs.TheConstants.{NO_CLOCK}
+use Rattle.hub_session.specs.Hubs.{IsLook, before_in, given_in, present_in, waiting_in}
+use Rattle.hub_session.specs.Pieces.{AreText, IsLegalJournal, Reads, piece_in}
+use Rattle.hub_session.specs.Tells.{bit_of, clock_told, counts_told, next_told}
 
 -- ---- a port
 -- what a look at a port shows
@@ -35,6 +39,31 @@ next_in other = 0
 abbrev pub next_bits : Option Session → ℕ
 next_bits s = option_map_or (λ s. next_in s.hub) s 0
 
+-- ---- the journal that is followed
+-- a process's next step of it, with its number
+abbrev pub step_in : Opened → ℕ → Option (ℕ × Entry)
+step_in (Following l) pid = step_of l (record { 0 = pid })
+step_in other pid = None
+
+abbrev pub next_step : Option Session → ℕ → NextC
+next_step s pid = next_told (option_and_then (λ s. step_in s.hub pid) s)
+
+-- the number of its clock
+abbrev pub clock_in : Opened → ℕ
+clock_in (Following l) = clock_told (clock_of l.locked.hub.terms.head l.given)
+clock_in other = NO_CLOCK
+
+abbrev pub clock_number : Option Session → ℕ
+clock_number s = option_map_or (λ s. clock_in s.hub) s NO_CLOCK
+
+-- the step at which the hub diverged from it, if it did
+abbrev pub asked_in : Opened → Option Entry
+asked_in (Following l) = l.asked
+asked_in other = None
+
+abbrev pub asked_of : Option Session → Option Entry
+asked_of s = option_and_then (λ s. asked_in s.hub) s
+
 -- ---- journals
 -- the journal; of a hub that never ends, its present chapter
 abbrev pub present_of : Option Session → Option JournalView
@@ -47,6 +76,10 @@ before_of s = option_and_then (λ s. before_in s.hub) s
 -- the chapter that waits to be read
 abbrev pub waiting_of : Option Session → Option JournalView
 waiting_of s = option_and_then (λ s. waiting_in s.chapter) s
+
+-- the journal that the hub follows
+abbrev pub given_of : Option Session → Option JournalView
+given_of s = option_and_then (λ s. given_in s.hub) s
 
 -- how many entries the journal has
 abbrev pub entries_of : Option Session → ℕ
@@ -63,9 +96,10 @@ Stays None now = now ≡ None
 Stays (Some was) None = ⊥
 Stays (Some was) (Some now) = StaysIn was now
 
--- a piece of a journal's text is read, and all pieces in order are the text
+-- a piece of a legal journal's text is read, and all pieces in order are the text
 pub record ReadsPiece (was : Option Session) (journal : Option JournalView) (number : ℕ) (now : Option Session)
     (place filled : List ℕ) (told : PieceC) : Type 0 where
   pub reads : Reads (piece_in journal number) place filled told
   pub stays : Stays was now
   pub whole : AreText
+  pub lawful : IfSome journal IsLegalJournal

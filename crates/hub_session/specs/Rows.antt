@@ -5,16 +5,17 @@ use Rattle.hub_base.specs.declared.fault.Fault.TheVariants.{Busy}
 use Rattle.hub_base.specs.declared.head.Edition.TheVariants.{Two}
 use Rattle.hub_base.specs.Journal.{JournalView}
 use Rattle.hub_base.specs.Lines.{line}
-use Rattle.hub_base.specs.Notation.{case, exit, faulted, made, make, procs_two, r, s, select, told}
+use Rattle.hub_base.specs.Notation.{cancel, case, exit, faulted, made, make, procs, procs_two, r, recv, s, select, told}
 use Rattle.hub_base.specs.Reading.{head_lines}
 use Rattle.hub_base.specs.declared.event.What.TheVariants as what
+use Rattle.hub_follow.specs.Clock.{clock_of}
 use Rattle.hub_session.specs.declared.structs.CaseC.{CaseC}
 use Rattle.hub_session.specs.declared.structs.ToldC.{ToldC}
 use Rattle.hub_session.specs.declared.structs.ValueC.{ValueC}
 use Rattle.hub_session.specs.Opens.{edition_of}
 use Rattle.hub_session.specs.Pieces.{piece_in, piece_told, put_piece}
 use Rattle.hub_session.specs.Structs.{call_of, send_of}
-use Rattle.hub_session.specs.Tells.{answer_told, bad_call, bits_of, came_told}
+use Rattle.hub_session.specs.Tells.{answer_told, bad_call, bits_of, came_told, clock_told, next_told}
 
 -- ---- what structs say
 abbrev zeros : ValueC
@@ -77,6 +78,33 @@ bad_call_row = refl
 
 pub none_waits_row : answer_told None ≡ nothing
 none_waits_row = refl
+
+-- ---- the journal that is followed
+-- a select of one case is a send, whatever its choice word
+pub next_send_row : next_told (Some (7, select 0 3 (s 4 9 ∷ []) false)) ≡ record { number = 7; what = 2; other = 0; port = 4 }
+next_send_row = refl
+
+pub next_default_row : next_told (Some (8, select 0 0 (r 4 ∷ []) true)) ≡ record { number = 8; what = 5; other = 0; port = 0 }
+next_default_row = refl
+
+pub next_cancel_row : next_told (Some (9, cancel 0 5)) ≡ record { number = 9; what = 8; other = 5; port = 0 }
+next_cancel_row = refl
+
+pub clock_row : clock_told (clock_of (procs_two 3) (recv 2 0 ∷ make 0 1 ∷ cancel 2 0 ∷ recv 2 0 ∷ exit 2 ∷ [])) ≡ 2
+clock_row = refl
+
+-- a clock makes no port, waits before all other steps, is not alone, and can cancel
+pub making_row : clock_told (clock_of (procs_two 3) (recv 2 0 ∷ make 2 1 ∷ [])) ≡ 64
+making_row = refl
+
+pub late_row : clock_told (clock_of (procs_two 3) (make 0 1 ∷ recv 2 0 ∷ [])) ≡ 64
+late_row = refl
+
+pub alone_row : clock_told (clock_of (procs_two 1) (recv 0 0 ∷ [])) ≡ 64
+alone_row = refl
+
+pub first_edition_row : clock_told (clock_of (procs 2) (recv 1 0 ∷ [])) ≡ 64
+first_edition_row = refl
 
 -- ---- texts
 abbrev ended : JournalView

@@ -1,6 +1,9 @@
 -- What is told to C: each struct is a function of what happened.
 use Rattle.std.specs.Prelude.{ℕ, nat_lt, ◌^◌, Bool, true, false, List, [], ◌∷◌, Option, None, Some, Result, Ok, Err, if◌then◌else◌}
 use Rattle.std.specs.Int.Bits.{bit_or}
+use Rattle.hub_base.specs.declared.case.Case.{Case}
+use Rattle.hub_base.specs.declared.case.Case.TheVariants.{Send, Recv}
+use Rattle.hub_base.specs.declared.entry.Step.TheVariants.{Make, Call, Close, Exit, Cancel}
 use Rattle.hub_base.specs.declared.event.Event.{Event}
 use Rattle.hub_base.specs.declared.event.Outcome.{Outcome}
 use Rattle.hub_base.specs.declared.event.Outcome.TheVariants.{Sent, Got, Drained, Closed}
@@ -9,6 +12,7 @@ use Rattle.hub_base.specs.declared.event.What.TheVariants.{Made, Fired, Default,
 use Rattle.hub_base.specs.declared.fault.Fault as faults
 use Rattle.hub_base.specs.declared.limits.TheConstants.{MOST_PROCS}
 use Rattle.hub_base.specs.declared.value.Pid.{Pid}
+use Rattle.hub_base.specs.Entry.{Entry, Step}
 use Rattle.hub_base.specs.Faults.{fault_number}
 use Rattle.hub_base.specs.Content.Content.{Num}
 use Rattle.hub_cut.specs.declared.totals.Totals.{Totals}
@@ -18,6 +22,7 @@ use Rattle.hub_follow.specs.declared.not_made.NotMade.{NotMade}
 use Rattle.hub_follow.specs.declared.not_made.NotMade.TheVariants.{Refused, NotYet, Diverged}
 use Rattle.hub_session.specs.declared.structs.CountsC.{CountsC}
 use Rattle.hub_session.specs.declared.structs.FollowC.{FollowC}
+use Rattle.hub_session.specs.declared.structs.NextC.{NextC}
 use Rattle.hub_session.specs.declared.structs.ToldC.{ToldC}
 use Rattle.hub_session.specs.declared.structs.TheConstants as number
 use Rattle.hub_session.specs.Structs.{told_as, value_told}
@@ -102,6 +107,43 @@ abbrev pub follow_refused : ChainFault → FollowC
 follow_refused (chain.Text f) = record { refusal = number.MALFORMED; line = f.line }
 follow_refused (chain.NotAdmitted line f) = record { refusal = number.NOT_ADMITTED; line = line }
 follow_refused other = record { refusal = number.REFUSED_MEMORY; line = 0 }
+
+-- ---- a process's next step of the journal
+-- what it is, and nothing with it
+abbrev pub only_next : ℕ → ℕ → NextC
+only_next number what = record { number = number; what = what; other = 0; port = 0 }
+
+-- on this port
+abbrev pub next_on : ℕ → ℕ → ℕ → NextC
+next_on number what p = record (only_next number what) { port = p }
+
+-- a call of one case
+abbrev pub case_next : ℕ → Case → NextC
+case_next n (Send p v) = next_on n number.STEP_SEND p.0
+case_next n (Recv p) = next_on n number.STEP_RECV p.0
+
+-- a call. One of one case without a default is a send or a receive, whatever its choice word
+abbrev pub call_next : ℕ → List Case → Bool → NextC
+call_next n (c ∷ []) false = case_next n c
+call_next n cases false = only_next n number.STEP_SELECT
+call_next n cases true = only_next n number.STEP_SELECT_DEFAULT
+
+-- the step of this number
+abbrev pub step_next : ℕ → Step → NextC
+step_next n (Make cap) = only_next n number.STEP_MAKE
+step_next n (Call cases default word) = call_next n cases.items default
+step_next n (Close p) = next_on n number.STEP_CLOSE p.0
+step_next n Exit = only_next n number.STEP_EXIT
+step_next n (Cancel q) = record (only_next n number.STEP_CANCEL) { other = q.0 }
+
+abbrev pub next_told : Option (ℕ × Entry) → NextC
+next_told None = only_next 0 0
+next_told (Some next) = step_next next.0 next.1.step
+
+-- the number of a journal's clock
+abbrev pub clock_told : Option Pid → ℕ
+clock_told None = number.NO_CLOCK
+clock_told (Some clock) = clock.0
 
 -- ---- what a look shows
 abbrev pub counts_told : Option Totals → CountsC

@@ -1,15 +1,18 @@
-//! Hubs that follow a journal: their steps, and whose step is next.
+//! Hubs that follow a journal: their steps, whose step is next, and what that journal says.
 
 ghost use Rattle.std.specs.Prelude.{◌≡◌, true};
 ghost use Rattle.hub_base.specs.Head.{is_of};
-ghost use Rattle.hub_session.specs.Looks.{next_in};
+ghost use Rattle.hub_session.specs.Looks.{clock_in, next_in, step_in};
+ghost use Rattle.hub_session.specs.Tells.{next_told};
 ghost use Rattle.hub_session.specs.Steps.{ServesFollowing};
 
 use crate::session::{Opened, Session};
 use crate::stepping::bits_ended;
-use crate::structs::ToldC;
-use crate::telling::{bit_of, tell_diverged, tell_made, tell_nothing, tell_refused};
-use hub_base::EntryRef;
+use crate::structs::{NO_CLOCK, NextC, ToldC};
+use crate::telling::{
+    bit_of, clock_told, next_told, tell_diverged, tell_made, tell_nothing, tell_refused,
+};
+use hub_base::{EntryRef, Pid};
 use hub_follow::{Follower, NotMade};
 
 /// Makes a step of a hub that follows a journal, and tells what it came to.
@@ -37,6 +40,26 @@ impl Session {
                 None => 0,
             },
             Opened::Limited(_) | Opened::Endless(_) => 0,
+        }
+    }
+
+    /// A process's next step of the journal that is followed.
+    pub fn step_of(&self, pid: u8) -> NextC
+        ensures { result ≡ next_told (step_in self.now.hub pid) }
+    {
+        match &self.hub {
+            Opened::Following(hub) => next_told(hub.step_of(Pid(pid))),
+            Opened::Limited(_) | Opened::Endless(_) => next_told(None),
+        }
+    }
+
+    /// The number of the clock's process in the journal that is followed; `NO_CLOCK` where there is none.
+    pub fn clock(&self) -> u8
+        ensures { result ≡ clock_in self.now.hub }
+    {
+        match &self.hub {
+            Opened::Following(hub) => clock_told(hub.clock()),
+            Opened::Limited(_) | Opened::Endless(_) => NO_CLOCK,
         }
     }
 }

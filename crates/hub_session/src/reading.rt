@@ -1,19 +1,22 @@
 //! What is read of a hub: its ports, and the texts of its journals, a piece at a time.
 
-ghost use Rattle.std.specs.Prelude.{◌≡◌, ◌++◌, Some, IfOk, OnErr, OnOk, length, option_map};
-ghost use Rattle.hub_base.specs.Head.{head_of};
+ghost use Rattle.std.specs.Prelude.{◌≡◌, ◌++◌, ◌-◌, Some, IfOk, IfSome, OnErr, OnOk, length, option_map, true};
+ghost use Rattle.hub_base.specs.Head.{head_of, is_of};
+ghost use Rattle.hub_base.specs.Lines.{line};
 ghost use Rattle.hub_base.specs.Reading.{head_lines};
 ghost use Rattle.hub_cut.specs.Recorder.{hub_in, journal_of};
-ghost use Rattle.hub_session.specs.Hubs.{IsLook, before_in, present_in, totals_since, waiting_in};
-ghost use Rattle.hub_session.specs.Looks.{LooksIn, StaysIn};
-ghost use Rattle.hub_session.specs.Pieces.{Gives, Reads, piece_in, piece_told, put_piece, some_if};
+ghost use Rattle.hub_session.specs.Hubs.{IsLook, before_in, given_in, present_in, totals_since, waiting_in};
+ghost use Rattle.hub_session.specs.Looks.{LooksIn, StaysIn, asked_in};
+ghost use Rattle.hub_session.specs.Pieces.{Gives, IsLegalJournal, Reads, only_line, piece_in, piece_of, piece_told, put_piece, some_if};
+ghost use Rattle.hub_session.specs.declared.session.Opened.TheVariants.{Following};
 
 use crate::session::{Opened, Session};
 use crate::structs::{CountsC, NO_MEMORY, NO_PIECE, NO_ROOM, PieceC, WRITTEN};
 use crate::telling::counts_told;
-use hub_base::{Edition, Head, Look, MOST_PROCS, NoMemory, Port};
+use hub_base::{Edition, Entry, Head, Look, MOST_PROCS, NoMemory, Port};
 use hub_core::ShortHub;
 use hub_cut::Totals;
+use hub_follow::Follower;
 use hub_live::under_lock::Locked;
 use hub_text::{write_entry, write_head};
 
@@ -42,18 +45,13 @@ fn write_first(out: &mut Vec<u8>, edition: Edition, procs: u8) -> Result<(), NoM
     write_head(out, edition, procs)
 }
 
-/// Puts a piece together in place of the one that is there: whether there is such a piece. Refused if memory is.
-#[tactic(auto, using(crate::proofs::Fitting::fits_at))]
-fn put_of_locked(piece: &mut Vec<u8>, hub: &Locked, number: u64) -> Result<bool, NoMemory>
-    ensures { IfOk result (λ there. some_if there piece.new.items ≡ piece_in (Some (journal_of hub.now.hub)) number) }
+/// Puts the line of this entry in place of the piece that is there: whether there is such an entry. Refused if memory is.
+fn put_line(piece: &mut Vec<u8>, edition: Edition, entry: Option<Entry>) -> Result<bool, NoMemory>
+    requires fits { IfSome entry (λ e. is_of edition e.step ≡ true) }
+    ensures { IfOk result (λ there. some_if there piece.new.items ≡ option_map line entry) }
 {
     piece.clear();
-    let Head { edition, procs } = hub.head();
-    let Some(place) = number.checked_sub(1) else {
-        write_first(piece, edition, procs)?;
-        return Ok(true);
-    };
-    match hub.entry(place as usize) {
+    match entry {
         Some(entry) => {
             write_entry(piece, edition, &entry.by_slice())?;
             Ok(true)
@@ -62,30 +60,66 @@ fn put_of_locked(piece: &mut Vec<u8>, hub: &Locked, number: u64) -> Result<bool,
     }
 }
 
-/// The same of a chapter.
-#[tactic(auto, using(crate::proofs::Fitting::fits_at))]
-fn put_of_chapter(piece: &mut Vec<u8>, hub: &ShortHub, number: u64) -> Result<bool, NoMemory>
-    ensures { IfOk result (λ there. some_if there piece.new.items ≡ piece_in (Some (journal_of hub.now.memory.hub)) number) }
+/// The same of a piece of a text: the head lines, or for another number the line of this entry.
+fn put_head_or_line(
+    piece: &mut Vec<u8>,
+    head: Head,
+    number: u64,
+    entry: Option<Entry>,
+) -> Result<bool, NoMemory>
+    requires fits { IfSome entry (λ e. is_of head.edition e.step ≡ true) }
+    ensures { IfOk result (λ there. some_if there piece.new.items ≡ piece_of head number entry) }
 {
-    piece.clear();
-    let Head { edition, procs } = hub.head();
-    let Some(place) = number.checked_sub(1) else {
-        write_first(piece, edition, procs)?;
-        return Ok(true);
-    };
-    match hub.entry(place as usize) {
-        Some(entry) => {
-            write_entry(piece, edition, &entry.by_slice())?;
-            Ok(true)
-        }
-        None => Ok(false),
+    if number > 0 {
+        return put_line(piece, head.edition, entry);
     }
+    piece.clear();
+    write_first(piece, head.edition, head.procs)?;
+    Ok(true)
+}
+
+/// The place of the entry whose line is this piece.
+fn place_of(number: u64) -> usize
+    ensures { result ≡ number - 1 }
+{
+    number.saturating_sub(1) as usize
+}
+
+/// The same of a piece of a hub's journal.
+fn put_of_locked(piece: &mut Vec<u8>, hub: &Locked, number: u64) -> Result<bool, NoMemory>
+    ensures reads { IfOk result (λ there. some_if there piece.new.items ≡ piece_in (Some (journal_of hub.now.hub)) number) }
+    ensures lawful { IsLegalJournal (journal_of hub.now.hub) }
+{
+    put_head_or_line(piece, hub.head(), number, hub.entry(place_of(number)))
+}
+
+/// The same of a chapter.
+fn put_of_chapter(piece: &mut Vec<u8>, hub: &ShortHub, number: u64) -> Result<bool, NoMemory>
+    ensures reads { IfOk result (λ there. some_if there piece.new.items
+        ≡ piece_in (Some (journal_of hub.now.memory.hub)) number) }
+    ensures lawful { IsLegalJournal (journal_of hub.now.memory.hub) }
+{
+    put_head_or_line(piece, hub.head(), number, hub.entry(place_of(number)))
+}
+
+/// The same of the journal that a hub follows.
+fn put_of_given(piece: &mut Vec<u8>, hub: &Follower, number: u64) -> Result<bool, NoMemory>
+    ensures reads { IfOk result (λ there. some_if there piece.new.items ≡ piece_in (given_in (Following hub.now)) number) }
+    ensures lawful { IfSome (given_in (Following hub.now)) IsLegalJournal }
+{
+    put_head_or_line(
+        piece,
+        hub.locked().head(),
+        number,
+        hub.given(place_of(number)),
+    )
 }
 
 /// The same of a chapter that there may be.
 fn put_of_any(piece: &mut Vec<u8>, hub: Option<&ShortHub>, number: u64) -> Result<bool, NoMemory>
-    ensures { IfOk result (λ there. some_if there piece.new.items
+    ensures reads { IfOk result (λ there. some_if there piece.new.items
         ≡ piece_in (option_map (λ h. journal_of (hub_in h.now)) hub.entry) number) }
+    ensures lawful { IfSome (option_map (λ h. journal_of (hub_in h.now)) hub.entry) IsLegalJournal }
 {
     match hub {
         Some(hub) => put_of_chapter(piece, hub, number),
@@ -161,7 +195,8 @@ impl Opened {
 
     /// Puts a piece of the journal together.
     fn put_present(&self, piece: &mut Vec<u8>, number: u64) -> Result<bool, NoMemory>
-        ensures { IfOk result (λ there. some_if there piece.new.items ≡ piece_in (Some (present_in self.now)) number) }
+        ensures reads { IfOk result (λ there. some_if there piece.new.items ≡ piece_in (Some (present_in self.now)) number) }
+        ensures lawful { IsLegalJournal (present_in self.now) }
     {
         match self {
             Opened::Limited(hub) => put_of_locked(piece, hub, number),
@@ -172,11 +207,35 @@ impl Opened {
 
     /// The same of the chapter before.
     fn put_before(&self, piece: &mut Vec<u8>, number: u64) -> Result<bool, NoMemory>
-        ensures { IfOk result (λ there. some_if there piece.new.items ≡ piece_in (before_in self.now) number) }
+        ensures reads { IfOk result (λ there. some_if there piece.new.items ≡ piece_in (before_in self.now) number) }
+        ensures lawful { IfSome (before_in self.now) IsLegalJournal }
     {
         match self {
             Opened::Limited(_) | Opened::Following(_) => Ok(false),
             Opened::Endless(hub) => put_of_any(piece, hub.before(), number),
+        }
+    }
+
+    /// The same of the journal that is followed.
+    fn put_given(&self, piece: &mut Vec<u8>, number: u64) -> Result<bool, NoMemory>
+        ensures reads { IfOk result (λ there. some_if there piece.new.items ≡ piece_in (given_in self.now) number) }
+        ensures lawful { IfSome (given_in self.now) IsLegalJournal }
+    {
+        match self {
+            Opened::Limited(_) | Opened::Endless(_) => Ok(false),
+            Opened::Following(hub) => put_of_given(piece, hub, number),
+        }
+    }
+
+    /// Puts the line together of the step at which the hub diverged. It is the only piece.
+    fn put_asked(&self, piece: &mut Vec<u8>, number: u64) -> Result<bool, NoMemory>
+        ensures { IfOk result (λ there. some_if there piece.new.items ≡ only_line (asked_in self.now) number) }
+    {
+        match self {
+            Opened::Following(hub) if number == 0 => {
+                put_line(piece, hub.locked().head().edition, hub.asked())
+            }
+            _ => Ok(false),
         }
     }
 }
@@ -201,6 +260,7 @@ impl Session {
     #[inline(never)]
     pub fn read_present(&mut self, number: u64, place: &mut [u8]) -> PieceC
         ensures reads { Reads (piece_in (Some (present_in self.old.hub)) number) place.old place.new result }
+        ensures lawful { IsLegalJournal (present_in self.old.hub) }
         ensures stays { StaysIn self.old self.new }
     {
         let put = self.hub.put_present(&mut self.piece, number);
@@ -211,6 +271,7 @@ impl Session {
     #[inline(never)]
     pub fn read_before(&mut self, number: u64, place: &mut [u8]) -> PieceC
         ensures reads { Reads (piece_in (before_in self.old.hub) number) place.old place.new result }
+        ensures lawful { IfSome (before_in self.old.hub) IsLegalJournal }
         ensures stays { StaysIn self.old self.new }
     {
         let put = self.hub.put_before(&mut self.piece, number);
@@ -221,9 +282,32 @@ impl Session {
     #[inline(never)]
     pub fn read_waiting(&mut self, number: u64, place: &mut [u8]) -> PieceC
         ensures reads { Reads (piece_in (waiting_in self.old.chapter) number) place.old place.new result }
+        ensures lawful { IfSome (waiting_in self.old.chapter) IsLegalJournal }
         ensures stays { StaysIn self.old self.new }
     {
         let put = put_of_any(&mut self.piece, self.chapter.as_ref(), number);
+        give(put, &self.piece, place)
+    }
+
+    /// The same of the journal that the hub follows.
+    #[inline(never)]
+    pub fn read_given(&mut self, number: u64, place: &mut [u8]) -> PieceC
+        ensures reads { Reads (piece_in (given_in self.old.hub) number) place.old place.new result }
+        ensures lawful { IfSome (given_in self.old.hub) IsLegalJournal }
+        ensures stays { StaysIn self.old self.new }
+    {
+        let put = self.hub.put_given(&mut self.piece, number);
+        give(put, &self.piece, place)
+    }
+
+    /// Writes the line of the step at which the hub diverged in the same way, as piece 0 of a text that has no other. There is none
+    /// if none was told as a divergence.
+    #[inline(never)]
+    pub fn read_asked(&mut self, number: u64, place: &mut [u8]) -> PieceC
+        ensures reads { Reads (only_line (asked_in self.old.hub) number) place.old place.new result }
+        ensures stays { StaysIn self.old self.new }
+    {
+        let put = self.hub.put_asked(&mut self.piece, number);
         give(put, &self.piece, place)
     }
 }

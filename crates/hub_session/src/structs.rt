@@ -39,6 +39,26 @@ pub const MALFORMED: u8 = 5;
 /// A journal is not followed, since one of its steps is not admitted.
 pub const NOT_ADMITTED: u8 = 6;
 
+/// A step makes a port.
+pub const STEP_MAKE: u8 = 1;
+/// A step is a call of one case without a default, which sends.
+pub const STEP_SEND: u8 = 2;
+/// A step is a call of one case without a default, which receives.
+pub const STEP_RECV: u8 = 3;
+/// A step is any other call without a default.
+pub const STEP_SELECT: u8 = 4;
+/// A step is a call with a default.
+pub const STEP_SELECT_DEFAULT: u8 = 5;
+/// A step closes a port.
+pub const STEP_CLOSE: u8 = 6;
+/// A step ends its process.
+pub const STEP_EXIT: u8 = 7;
+/// A step ends the open call of another process.
+pub const STEP_CANCEL: u8 = 8;
+
+/// A journal has no clock: the number of no process.
+pub const NO_CLOCK: u8 = 64;
+
 /// There is no such piece of a text: the last one stands before it.
 pub const NO_PIECE: u8 = 0;
 /// The piece was written.
@@ -138,4 +158,18 @@ pub struct FollowC {
     pub refusal: u8,
     /// The journal's first line that is malformed or not admitted, from 1; else 0.
     pub line: u32,
+}
+
+/// A process's next step of the journal that is followed. All is 0 where there is none.
+#[repr(C)]
+#[derive(Clone, Copy)]
+pub struct NextC {
+    /// The number of the step in the journal, from 1.
+    pub number: u32,
+    /// What it is, `STEP_MAKE` to `STEP_CANCEL`.
+    pub what: u8,
+    /// Whom a cancel cancels; else 0.
+    pub other: u8,
+    /// The port of a send, a receive or a close; else 0.
+    pub port: u16,
 }

@@ -4,13 +4,16 @@ ghost use Rattle.std.specs.Prelude.{◌≡◌, ℕ, Err, None, Ok};
 ghost use Rattle.hub_base.specs.Content.Content.{Num};
 ghost use Rattle.hub_base.specs.Value.{content, number_in};
 ghost use Rattle.hub_session.specs.Structs.{told_as, value_told};
-ghost use Rattle.hub_session.specs.Tells.{bad_call, bit_of, bits_of, came_told, counts_told, diverged_told, fault_told, only_told, outcome_told, what_told};
+ghost use Rattle.hub_session.specs.Tells.{bad_call, bit_of, bits_of, call_next, came_told, case_next, clock_told, counts_told, diverged_told, fault_told, next_on, next_told, only_next, only_told, outcome_told, step_next, what_told};
 
 use crate::structs::{
     BAD_CALL, CANCELLED, CLOSED, CountsC, DEFAULT, DIVERGED, DONE, DRAINED, FAULT, GOT, MADE,
-    PARKED, SENT, STALLED, ToldC, ValueC,
+    NO_CLOCK, NextC, PARKED, SENT, STALLED, STEP_CANCEL, STEP_CLOSE, STEP_EXIT, STEP_MAKE,
+    STEP_RECV, STEP_SELECT, STEP_SELECT_DEFAULT, STEP_SEND, ToldC, ValueC,
 };
-use hub_base::{Event, Fault, MOST_PROCS, MOST_VALUE_BYTES, Outcome, Pid, Value, What};
+use hub_base::{
+    Case, Entry, Event, Fault, MOST_PROCS, MOST_VALUE_BYTES, Outcome, Pid, Port, Step, Value, What,
+};
 use hub_cut::Totals;
 
 /// Says a number.
@@ -179,6 +182,89 @@ pub(crate) fn tell_refused(fault: Fault, chapter: bool, told: &mut ToldC)
 {
     tell_fault(fault.number(), told);
     told.chapter = chapter.into();
+}
+
+/// What a step is, and nothing with it.
+fn only_next(number: u32, what: u8) -> NextC
+    ensures { result ≡ only_next number what }
+{
+    NextC {
+        number,
+        what,
+        other: 0,
+        port: 0,
+    }
+}
+
+/// What a step on this port is.
+fn next_on(number: u32, what: u8, port: Port) -> NextC
+    ensures { result ≡ next_on number what port.0 }
+{
+    NextC {
+        number,
+        what,
+        other: 0,
+        port: port.0,
+    }
+}
+
+/// What a call of one case is.
+fn case_next(number: u32, case: Case) -> NextC
+    ensures { result ≡ case_next number case }
+{
+    match case {
+        Case::Send(port, _value) => next_on(number, STEP_SEND, port),
+        Case::Recv(port) => next_on(number, STEP_RECV, port),
+    }
+}
+
+/// What a call is.
+fn call_next(number: u32, cases: &[Case], default: bool) -> NextC
+    ensures { result ≡ call_next number cases.now default }
+{
+    match cases {
+        _ if default => only_next(number, STEP_SELECT_DEFAULT),
+        [case] => case_next(number, *case),
+        _ => only_next(number, STEP_SELECT),
+    }
+}
+
+/// What the step of this number is.
+fn step_next(number: u32, step: &Step) -> NextC
+    ensures { result ≡ step_next number step.now }
+{
+    match step {
+        Step::Make(_) => only_next(number, STEP_MAKE),
+        Step::Call { cases, default, .. } => call_next(number, cases.as_slice(), *default),
+        Step::Close(port) => next_on(number, STEP_CLOSE, *port),
+        Step::Exit => only_next(number, STEP_EXIT),
+        Step::Cancel(pid) => NextC {
+            number,
+            what: STEP_CANCEL,
+            other: pid.0,
+            port: 0,
+        },
+    }
+}
+
+/// What is told of a process's next step of the journal and its number: all is 0 where there is none.
+pub fn next_told(next: Option<(u32, Entry)>) -> NextC
+    ensures { result ≡ next_told next }
+{
+    match next {
+        Some((number, entry)) => step_next(number, &entry.step),
+        None => only_next(0, 0),
+    }
+}
+
+/// The number of a journal's clock.
+pub(crate) fn clock_told(clock: Option<Pid>) -> u8
+    ensures { result ≡ clock_told clock }
+{
+    match clock {
+        Some(clock) => clock.0,
+        None => NO_CLOCK,
+    }
 }
 
 /// What a look shows: all is 0 where there is no such port.

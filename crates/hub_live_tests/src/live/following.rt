@@ -29,6 +29,10 @@ enum Row {
     Next(Option<Pid>),
     /// The number of the step at which it has diverged.
     Diverged(Option<u32>),
+    /// The number of the process's next step in the journal.
+    StepOf(u8, Option<u32>),
+    /// Which process made the step that was the first divergence.
+    Asked(Option<Pid>),
 }
 
 /// How the hub, whose edition must have the step, answers it.
@@ -65,6 +69,11 @@ fn follow_row(rt: &impl Abort, hub: &mut Follower, row: Row, place: usize) {
         }
         Row::Next(pid) => same(rt, hub.next(), pid, place),
         Row::Diverged(number) => same(rt, hub.diverged(), number, place),
+        Row::StepOf(pid, number) => {
+            let found = hub.step_of(Pid(pid)).map(|(number, _)| number);
+            same(rt, found, number, place);
+        }
+        Row::Asked(pid) => same(rt, hub.asked().map(|entry| entry.pid), pid, place),
     }
 }
 
@@ -74,16 +83,22 @@ const GOES_ON: &[Row] = &[
     Row::Waits(1, Ask::Recv),
     Row::Asks(0, Ask::Make(0), MADE),
     Row::Next(Some(Pid(1))),
+    Row::StepOf(1, Some(2)),
+    Row::StepOf(0, Some(3)),
     Row::Waits(0, Ask::Send(9)),
     Row::Asks(1, Ask::Recv, PARKED),
     Row::Asks(1, Ask::Recv, Told::Refused(Fault::Busy)),
     Row::Asks(0, Ask::Send(9), SENT),
     Row::Takes(1, Told::Got(9)),
     Row::Waits(1, Ask::Exit),
+    Row::StepOf(1, None),
     Row::Next(Some(Pid(0))),
     Row::Diverged(None),
+    Row::Asked(None),
     Row::Diverges(0, Ask::Exit, 4),
     Row::Diverged(Some(4)),
+    Row::Asked(Some(Pid(0))),
+    Row::StepOf(0, None),
     Row::Next(None),
     Row::Asks(1, Ask::Exit, DONE),
     Row::Asks(0, Ask::Close, DONE),
@@ -99,6 +114,7 @@ const ENDS: &[Row] = &[
     Row::Diverged(None),
     Row::Diverges(1, Ask::Exit, 5),
     Row::Diverges(0, Ask::Close, 5),
+    Row::Asked(Some(Pid(1))),
 ];
 
 /// The first step is another one.
@@ -225,5 +241,20 @@ fn another_case_or_default_is_a_divergence(rt: HostRuntime) -> Result<(), Fail> 
     let with_default = select(cases_from(&[send(7), send(8)]), true, 3);
     let told = ask(&rt, &mut hub, &with_default);
     same(&rt, told, Err(NotMade::Diverged(2)), "default");
+    Ok(())
+}
+
+/// Process 1 waits on port 0 before all other steps, and makes none but such waits and a cancel.
+const WITH_CLOCK: &[u8] =
+    b"chanhub journal 2\nprocs 2\n1 recv 0\n0 make 0\n0 recv 1\n1 cancel 0\n0 exit\n";
+
+#[test]
+fn the_clock_of_a_journal_is_known(rt: HostRuntime) -> Result<(), Fail> {
+    let timed = Follower::open(rt.alloc(), WITH_CLOCK, AfterDivergence::Ends)?;
+    same(&rt, timed.clock(), Some(Pid(1)), "a clock");
+    let untimed = Follower::open(rt.alloc(), JOURNAL, AfterDivergence::Ends)?;
+    same(&rt, untimed.clock(), None, "none");
+    let first = untimed.given(0);
+    same(&rt, first.map(|entry| entry.pid), Some(Pid(0)), "entry 0");
     Ok(())
 }

@@ -1,18 +1,20 @@
-use Rattle.std.proofs.Common.{rules, ◌≡◌, ◌∙◌, sym, ap, Some}
-use Rattle.std.specs.Option.{option_map}
-use Rattle.hub_base.specs.Lines.{line}
+use Rattle.std.proofs.Common.{◌≡◌, ℕ, List, Option, Some, subst}
+use Rattle.std.specs.Prelude.{IfOk}
+use Rattle.hub_base.specs.Journal.{JournalView}
 use Rattle.hub_cut.specs.Recorder.{journal_of}
-use Rattle.hub_session.proofs.Texts.{piece_behind}
+use Rattle.hub_session.specs.Pieces.{piece_in, piece_of, some_if}
+use Rattle.hub_session.proofs.Fitting.{fits_at}
+use Rattle.hub_session.proofs.Texts.{piece_at}
 use Rattle.hub_session.proofs.reading.put_of_chapter.Goals as goal
 
-pub returns-in_ok-write_entry-in-Some-entry : goal.returns-in_ok-write_entry-in-Some-entry
-returns-in_ok-write_entry-in-Some-entry c =
-    let written : c.write_entry.new.out.items ≡ line c.in-Some-entry.entry = search rules in
-    ap Some written
-    ∙ sym (piece_behind (journal_of c.args.hub.now.memory.hub) c.args.number c.in-Some.place c.in-Some.ensures.0 c.in-Some.ensures.1
-    ∙ ap (option_map line) (sym c.entry.ensures.entry ∙ c.in-Some-entry.is))
+pub put_head_or_line-requires : goal.put_head_or_line-requires
+put_head_or_line-requires c =
+    record { fits = rw (c.entry.ensures.entry, c.head.ensures.value) (fits_at c.args.hub.now.memory.hub.terms.head.edition c.args.hub.now.memory.hub.journal c.place_of.result c.entry.ensures.fits) }
 
-pub returns-in-None : goal.returns-in-None
-returns-in-None c =
-    sym (piece_behind (journal_of c.args.hub.now.memory.hub) c.args.number c.in-Some.place c.in-Some.ensures.0 c.in-Some.ensures.1
-    ∙ ap (option_map line) (sym c.entry.ensures.entry ∙ c.in-None.is))
+pub returns-clause-reads : goal.returns-clause-reads
+returns-clause-reads c =
+    let j : JournalView = journal_of c.args.hub.now.memory.hub in
+    let at : piece_of c.head.result c.args.number c.entry.result ≡ piece_in (Some j) c.args.number =
+    rw (c.head.ensures.value, c.entry.ensures.entry, c.place_of.ensures) (piece_at j c.args.number) in
+    subst (λ (o : Option (List ℕ)). IfOk c.put_head_or_line.result (λ there. some_if there c.put_head_or_line.new.piece.items ≡ o)) at
+    c.put_head_or_line.ensures

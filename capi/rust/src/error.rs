@@ -48,7 +48,7 @@ pub enum Ended {
     TimedOut,
     /// The journal that the hub [follows](crate::Hub::follow) has another step here. The call was not made.
     ///
-    /// The number is that of the step, from 1.
+    /// The number is that of the step, from 1. [`Hub::divergence`](crate::Hub::divergence) says what was asked, and what the step is.
     Diverged(u64),
     /// The hub did not carry out the call; the [`Fault`] says why.
     Fault(Fault),
@@ -90,8 +90,8 @@ impl Fault {
     /// The call used a channel of another hub, had more than 16 cases, requires edition 2 or [timeouts](crate::Builder::timeouts), or
     /// would have cut a hub of [`Hub::open`](crate::Hub::open).
     pub const BAD_CALL: Fault = Fault(13);
-    /// The journal that the hub [follows](crate::Hub::follow) has another step here. Sends, receives and selects return
-    /// [`Ended::Diverged`] instead.
+    /// The journal that the hub [follows](crate::Hub::follow) has another step here: [`Hub::divergence`](crate::Hub::divergence) says
+    /// which. Sends, receives and selects return [`Ended::Diverged`] instead.
     pub const DIVERGED: Fault = Fault(14);
     /// The turn of the call has not come. No hub of this crate is opened so that it reports this.
     pub const NOT_YET: Fault = Fault(15);
@@ -150,7 +150,7 @@ impl fmt::Display for Ended {
             Ended::TimedOut => f.write_str("the timeout passed"),
             Ended::Diverged(step) => write!(
                 f,
-                "the journal that the hub follows has another step here: step {step}"
+                "the journal that the hub follows has another step here: step {step} (see Hub::divergence)"
             ),
             Ended::Fault(fault) => fault.fmt(f),
         }

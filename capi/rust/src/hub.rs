@@ -405,8 +405,8 @@ impl Hub {
     /// the journal waits until all of it is made.
     ///
     /// A call with another step than the process's next one returns [`Ended::Diverged`], and so does a call once all of the journal is
-    /// made. Then the hub ends: all calls return the same, also those that wait. If `goes_on` is true, it goes on as a hub that follows
-    /// nothing instead; once all of the journal is made, it then makes any call.
+    /// made; [`divergence`](Hub::divergence) says what was asked. Then the hub ends: all calls return the same, also those that wait. If
+    /// `goes_on` is true, it goes on as a hub that follows nothing instead; once all of the journal is made, it then makes any call.
     ///
     /// If the hub of the journal had [timeouts](crate::Builder::timeouts), calls take them. A call times out if, and only if, it
     /// did there, whatever time it is now. Timeouts count again once the hub goes on freely.
@@ -425,6 +425,7 @@ impl Hub {
     /// let (sender, receiver) = seat.channel(1).unwrap();
     /// assert_eq!(sender.send(&mut seat, 7), Ok(()));
     /// assert_eq!(receiver.recv(&mut seat), Err(Ended::Diverged(3)));
+    /// assert_eq!(hub.divergence().as_deref(), Some("P0 asked recv 1, step 3 is 0 exit"));
     /// # Ok::<(), chanhub::OpenError>(())
     /// ```
     ///
@@ -533,6 +534,12 @@ impl Hub {
     /// Only a hub that never ends has one, once its journal was cut. As with [`journal`](Hub::journal), this needs no seat.
     pub fn before(&self) -> Option<String> {
         self.text(sys::chanhub_before)
+    }
+
+    /// Returns what was asked where the hub diverged from the journal that it [follows](Hub::follow), and what the journal has there, such
+    /// as `P2 asked send 2 3, step 17 is 2 send 2 2`. Returns `None` if it has not diverged or memory runs out. This needs no seat.
+    pub fn divergence(&self) -> Option<String> {
+        self.text(sys::chanhub_divergence)
     }
 
     fn text(&self, reading: Reading) -> Option<String> {

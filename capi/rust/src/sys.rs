@@ -159,6 +159,7 @@ extern "C" {
     pub fn chanhub_steps_left(hub: *mut Chanhub) -> u64;
     pub fn chanhub_journal(hub: *mut Chanhub, length: *mut usize) -> *mut c_char;
     pub fn chanhub_before(hub: *mut Chanhub, length: *mut usize) -> *mut c_char;
+    pub fn chanhub_divergence(hub: *mut Chanhub, length: *mut usize) -> *mut c_char;
     pub fn chanhub_free_text(text: *mut c_char);
     pub fn chanhub_write_chapter(files: *mut Files, text: *const c_char, length: usize);
 }

@@ -55,8 +55,12 @@ fn a_divergence_ends_the_hub() {
     assert_eq!(sender.close(&mut zero), Err(Ended::Fault(Fault::DIVERGED)));
     assert!(JOURNAL.starts_with(&hub.journal().unwrap()));
     assert_eq!(
+        hub.divergence().as_deref(),
+        Some("P0 asked send 1 8, step 3 is 0 send 1 9")
+    );
+    assert_eq!(
         Ended::Diverged(3).to_string(),
-        "the journal that the hub follows has another step here: step 3"
+        "the journal that the hub follows has another step here: step 3 (see Hub::divergence)"
     );
 }
 

@@ -93,24 +93,9 @@
 //! A stalled call had no effect. A process may call again, but if all repeat their calls, they stall again: let one of them back
 //! off, exit or close a channel.
 //!
-//! If a program hangs, save the journal from any thread, through a clone of the [`Hub`]. Its picture shows the calls that still
-//! wait:
-//!
-//! ```
-//! use std::{fs, sync::mpsc, thread, time::Duration};
-//!
-//! # let (hub, _seats) = chanhub::Hub::open(chanhub::Edition::One, 1, 100).unwrap();
-//! let watched = hub.clone();
-//! let (running, ended) = mpsc::channel::<()>();
-//! let watchdog = thread::spawn(move || {
-//!     if ended.recv_timeout(Duration::from_secs(60)) == Err(mpsc::RecvTimeoutError::Timeout) {
-//!         fs::write("hung.journal", watched.journal().expect("memory")).expect("a file");
-//!     }
-//! });
-//! // The program runs here.
-//! drop(running); // stops the watchdog
-//! # watchdog.join().unwrap();
-//! ```
+//! If a program hangs, run it with `CHANHUB_WATCH=60:hung.journal` in its environment. If a call waits in a hub and nothing has moved
+//! there for 60 seconds, the library writes the hub's journal to that file. Its picture shows the calls that still wait. Any thread can
+//! also save the journal itself, through a clone of the [`Hub`].
 //!
 //! A panic that unwinds drops the seats that its thread owns, and so exits their processes. If every other process is waiting
 //! then, their calls return [`Ended::Stalled`] instead of hanging.

@@ -196,6 +196,14 @@ impl Raw {
         }
     }
 
+    /// Closes a port as the process whose seat the thread has.
+    fn close(&self, pid: u8, port: u16) -> sys::Told {
+        // SAFETY: the hub is open as long as this exists, and no other call of the process runs meanwhile.
+        self.call(pid, |hub, pid| unsafe {
+            sys::chanhub_close(hub, pid, port.into())
+        })
+    }
+
     /// Closes the abandoned ports as this process, whose call has begun.
     fn close_as(&self, pid: u8) {
         for port in self.abandoned.take() {
@@ -401,8 +409,8 @@ impl Hub {
     /// its steps. Returns it and a seat for each process, in order.
     ///
     /// A step is made only in its turn: a call whose step is its process's next in the journal waits until it is the next of all. So
-    /// each call has the answer that the journal has, whatever the schedule of the threads is. A process that makes no further step in
-    /// the journal waits until all of it is made.
+    /// each call has the answer that the journal has, whatever the schedule of the threads is, and whatever word a select passes. A
+    /// process that makes no further step in the journal waits until all of it is made.
     ///
     /// A call with another step than the process's next one returns [`Ended::Diverged`], and so does a call once all of the journal is
     /// made; [`divergence`](Hub::divergence) says what was asked. Then the hub ends: all calls return the same, also those that wait. If
@@ -576,15 +584,32 @@ impl Hub {
 
     /// Has the calls of processes watched from now on, as `abandon` needs.
     pub(crate) fn watch(&self) {
-        self.0.is_watched.store(true, Ordering::Relaxed);
+        if !self.0.is_watched.swap(true, Ordering::Relaxed) {
+            self.closes_with_ends(0);
+        }
     }
 
-    /// Closes an abandoned port: as this process, whose seat the thread has, or as any that is idle.
+    /// Says that this port is abandoned when the last of its ends is dropped; port 0 stands for those that are still to be made.
+    pub(crate) fn closes_with_ends(&self, port: u16) {
+        // SAFETY: the hub is open as long as `self.0` is.
+        unsafe { sys::chanhub_closes_with_ends(self.0.at, port.into()) }
+    }
+
+    /// Closes an abandoned port: as this process, whose seat the thread has, or as any that is idle. A hub that follows a journal does
+    /// so itself, in the turn and as the process that the journal has.
     pub(crate) fn abandon(&self, port: u16, pid: Option<u8>) {
-        self.0.abandoned.add(port);
+        // SAFETY: the hub is open as long as `self.0` is.
+        if unsafe { sys::chanhub_ends_gone(self.0.at, port.into()) } {
+            return;
+        }
         match pid {
-            Some(pid) => self.0.call(pid, |_hub, _pid| ()),
-            None => self.0.close_abandoned(None),
+            Some(pid) => {
+                self.0.close(pid, port);
+            }
+            None => {
+                self.0.abandoned.add(port);
+                self.0.close_abandoned(None);
+            }
         }
     }
 
@@ -761,7 +786,7 @@ impl Seat {
     }
 
     pub(crate) fn close(&self, port: u16) -> Result<(), Fault> {
-        done(self.call(|hub, pid| unsafe { sys::chanhub_close(hub, pid, port.into()) }))
+        done(self.hub.0.close(self.pid, port))
     }
 
     #[inline]

@@ -152,6 +152,8 @@ extern "C" {
     pub fn chanhub_in(nanoseconds: u64) -> u64;
     pub fn chanhub_resume(hub: *mut Chanhub, pid: c_uint, nanoseconds: u64) -> Told;
     pub fn chanhub_close(hub: *mut Chanhub, pid: c_uint, port: c_uint) -> Told;
+    pub fn chanhub_closes_with_ends(hub: *mut Chanhub, port: c_uint);
+    pub fn chanhub_ends_gone(hub: *mut Chanhub, port: c_uint) -> bool;
     pub fn chanhub_exit(hub: *mut Chanhub, pid: c_uint) -> Told;
     pub fn chanhub_cancel(hub: *mut Chanhub, pid: c_uint, other: c_uint) -> Told;
     pub fn chanhub_cut(hub: *mut Chanhub) -> bool;

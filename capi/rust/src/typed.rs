@@ -37,7 +37,9 @@
 //!
 //! The journal shows the close as a step of the process to whose seat the dropped end was bound. If the last end is dropped unbound,
 //! such as the original after it was cloned for each thread, the step is one of some process that has called before and is in no
-//! call just then. If there is none, it is one of the next process that begins or ends a call, or exits.
+//! call just then. If there is none, it is one of the next process that begins or ends a call, or exits. A hub that
+//! [follows](Hub::follow) a journal makes the close that the journal has, once the last end is dropped, by whichever thread. Until then
+//! other calls of the process that the journal has there wait.
 //!
 //! An end that is bound borrows the seat, so it is dropped before the seat exits its process. An end that was not bound when its
 //! thread dropped the seat could still be the last sender, but none of the processes could know: if they all wait, they stall.
@@ -81,6 +83,7 @@ pub use select::{Select, SelectTimeoutError, SelectedOperation};
 pub fn channel<T>(seat: &Seat, cap: u32) -> Result<(Sender<T>, Receiver<T>), Fault> {
     seat.hub().watch();
     let channel = Arc::new(Channel::at(seat.make(cap)?, seat));
+    channel.hub.closes_with_ends(channel.port);
     let sender = Sender {
         channel: Arc::clone(&channel),
         pid: None,

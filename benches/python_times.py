@@ -41,11 +41,11 @@ def of_hub(calls, **options):
 
 
 def by_ctypes(calls, **options):
-    quick, chanhub._Quick = chanhub._Quick, None
+    made, chanhub._CallsType = chanhub._CallsType, chanhub._Calls
     try:
         return of_hub(calls, **options)
     finally:
-        chanhub._Quick = quick
+        chanhub._CallsType = made
 
 
 def of_objects(calls):
@@ -62,7 +62,7 @@ def in_thread(run, calls):
 
 def main():
     calls, sets = (int(word) for word in (sys.argv[1:] + ['200000', '5'][len(sys.argv) - 1:]))
-    if chanhub._Quick is None:
+    if chanhub._CallsType is chanhub._Calls:
         print('skipped: the extension: not built, or not to be used')
     timed = {
         'queue.Queue': of_queue,

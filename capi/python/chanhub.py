@@ -7,7 +7,7 @@
         print(bob.recv(port))
 
 A hub has a fixed number of processes. Each thread acts as one of them, through its seat. Other threads run while a call waits. A call
-that fails raises Closed, Drained, Stalled, Cancelled, TimedOut or Fault.
+that fails raises Closed, Drained, Stalled, Cancelled, TimedOut, HubEnded or Fault.
 
 If every process that has not exited is waiting, none of their calls can ever end. Each of these calls then raises Stalled, and has had
 no effect. A process may call again, but if all repeat their calls, they stall again. A hub
@@ -61,11 +61,12 @@ A hub can follow a journal, so that a run is repeated exactly as it was:
 
 If the journal's hub had timeouts, each call times out, or is answered, as it was there, however long that takes.
 
-Ctrl-C interrupts a wait of the main thread with KeyboardInterrupt. Nothing is lost: the call stays open, `seat.waits` is true, and
-`seat.resume()` resumes the wait. (Before Python 3.10, an answer that comes just then may be lost on its way to the caller.)
+Ctrl-C interrupts a wait of the main thread with KeyboardInterrupt. Nothing is lost, whatever exception a signal handler raises and
+when: either the call was not made, or it stays open, `seat.waits` is true, and `seat.resume()` resumes the wait. (Before Python 3.11, an
+answer that comes just then may be lost on its way to the caller.)
 
-When a `with Hub` block ends, no new call begins, and each waiting call ends. A hub belongs to the operating-system process that
-opened it: in a forked child, every call on it raises RuntimeError.
+When a `with Hub` block ends, no new call begins, and each waiting call raises HubEnded. A hub belongs to the operating-system
+process that opened it: in a forked child, every call on it raises RuntimeError.
 """
 from __future__ import annotations
 
@@ -80,11 +81,11 @@ from collections import defaultdict, deque
 from concurrent.futures import Future, ThreadPoolExecutor
 from importlib.machinery import ExtensionFileLoader
 from importlib.util import module_from_spec, spec_from_loader
-from itertools import count, islice, repeat, starmap
+from itertools import count, repeat, starmap
 from queue import Empty, Full, SimpleQueue
 from threading import get_ident
 from time import monotonic_ns
-from typing import (Any, AsyncIterator, Callable, DefaultDict, Deque, Dict, Iterable, Iterator, List, NamedTuple, Optional, Sequence, Set,
+from typing import (Any, AsyncIterator, Callable, DefaultDict, Deque, Dict, Iterable, Iterator, List, NamedTuple, Optional, Sequence,
                     Tuple, Union)
 
 Value = Union[int, bytes]
@@ -156,6 +157,12 @@ class TimedOut(Ended):
     """Raised by a call whose timeout passed before it was answered. The call had no effect."""
 
     words = 'the timeout passed'
+
+
+class HubEnded(Ended, ValueError):
+    """Raised by each call that waits when a hub ends, and by each call after that. The call had no effect."""
+
+    words = 'the hub has ended'
 
 
 class Fault(Exception):
@@ -261,7 +268,6 @@ def _library() -> ctypes.CDLL:
             ('open_with', ctypes.c_int, [ctypes.POINTER(hub), ctypes.POINTER(_Options)]),
             ('free', None, [hub]),
             ('make', _Told, [hub, number, ctypes.c_uint32]),
-            ('select', _Told, [hub, number, ctypes.c_char_p, ctypes.c_size_t, ctypes.c_bool, ctypes.c_uint64]),
             ('begin', _Told, [hub, number, ctypes.c_char_p, ctypes.c_size_t, ctypes.c_bool, ctypes.c_uint64]),
             ('begin_until', _Told, [hub, number, ctypes.c_char_p, ctypes.c_size_t, ctypes.c_bool, ctypes.c_uint64, ctypes.c_uint64]),
             ('expire', ctypes.c_bool, [hub, number]),
@@ -283,31 +289,28 @@ def _library() -> ctypes.CDLL:
     return library
 
 
-def _quick_type() -> Any:
-    """Loads chanhub_calls.c, by which a send or a receive that need not wait takes a third of the time, and returns its type. Returns None
-    if it was not built, if this Python cannot load it, or if CHANHUB_CALLS says `ctypes`. Also before Python 3.10, where an
-    exception of a signal handler may come between a subscript and its store, so that an answer would be lost."""
+def _calls_type() -> Any:
+    """Loads chanhub_calls.c, by which a send or a receive that need not wait takes a tenth of the time, and returns its type. Returns
+    `_Calls` if it was not built, if this Python cannot load it, or if CHANHUB_CALLS says `ctypes`. Also before Python 3.10, where an
+    exception of a signal handler may come between a subscript and a return."""
     here = os.path.dirname(os.path.abspath(__file__))
     places = [os.path.join(folder, 'chanhub_calls.abi3.so') for folder in (here, os.path.join(here, '..', 'out'))]
     path = next(filter(os.path.exists, places), None)
     if path is None or os.environ.get('CHANHUB_CALLS') == 'ctypes' or sys.version_info < (3, 10):
-        return None
+        return _Calls
     try:
         loader = ExtensionFileLoader('chanhub_calls', path)
         module = module_from_spec(spec_from_loader('chanhub_calls', loader))  # type: ignore[arg-type]
         loader.exec_module(module)
-        return module.Quick
     except ImportError:
-        return None
+        return _Calls
+    functions = (getattr(_LIBRARY, 'chanhub_' + name) for name in ('begin', 'begin_until', 'resume', 'turn', 'make', 'close', 'cancel'))
+    module.use(tuple(ctypes.cast(function, ctypes.c_void_p).value for function in functions), _case, Fired, Fault)
+    return module.Calls
 
 
 _LIBRARY = _library()
-_Quick = _quick_type()
-_select, _begin, _resume = _LIBRARY.chanhub_select, _LIBRARY.chanhub_begin, _LIBRARY.chanhub_resume
-_begin_until = _LIBRARY.chanhub_begin_until
-_BEGIN = ctypes.cast(_begin, ctypes.c_void_p).value
-# What stands where there is no answer yet.
-_NOTHING: Any = object()
+_begin, _begin_until, _resume = _LIBRARY.chanhub_begin, _LIBRARY.chanhub_begin_until, _LIBRARY.chanhub_resume
 # How many nanoseconds the main thread waits before it checks for signals, and how many the others do.
 _SLICE, _FOR_EVER = 50_000_000, 2 ** 64 - 1
 # The longest timeout in seconds, some 30 years. A longer one is this one.
@@ -326,7 +329,7 @@ def _after_fork() -> None:
     global _main
     _main = get_ident()
     for hub in list(_hubs):
-        hub._live = hub._quick = None
+        hub._live = None
 
 
 os.register_at_fork(after_in_child=_after_fork)
@@ -339,113 +342,139 @@ def _within(name: str, number: int, most: int) -> int:
     return number
 
 
-def _send_case(port: int, value: Sendable) -> bytes:
-    """Returns the chanhub_case that sends this value."""
-    if isinstance(value, int):
-        if 0 <= port <= 65535 and 0 <= value < 2 ** 64:
-            return _pack_number(True, port, value)
-        _within('value', value, 2 ** 64 - 1)
-    elif not isinstance(value, (bytes, bytearray, memoryview)):
-        raise TypeError(f'a value must be an int or bytes, not {type(value).__name__}')
-    _within('port', port, 65535)
-    sent = bytes(value)
+def _case(port: int, *value: Sendable) -> bytes:
+    """Returns the chanhub_case that sends this value on the port, or without one receives from it."""
+    if not 0 <= port <= 65535:
+        _within('port', port, 65535)
+    if not value:
+        return _pack_recv(False, port)
+    if isinstance(value[0], int):
+        return _pack_number(True, port, value[0] if 0 <= value[0] < 2 ** 64 else _within('value', value[0], 2 ** 64 - 1))
+    if not isinstance(value[0], (bytes, bytearray, memoryview)):
+        raise TypeError(f'a value must be an int or bytes, not {type(value[0]).__name__}')
+    sent = bytes(value[0])
     return _pack_bytes(True, port, True, _within('length', len(sent), 32), sent)
 
 
-def _recv_case(port: int) -> bytes:
-    """Returns the chanhub_case that receives from this port."""
-    return _pack_recv(False, port if 0 <= port <= 65535 else _within('port', port, 65535))
+# A call: its answer, once there is one, whether it is a select, and the numbers of the objects that it sends, by case.
+_Call = Tuple[List[_Told], bool, Dict[int, int]]
 
 
-def _case(case: Union[Send, Recv]) -> bytes:
-    return _send_case(case.port, case.value) if isinstance(case, Send) else _recv_case(case.port)
+class _Calls:
+    """What chanhub_calls.c is, by ctypes.
+
+    The interpreter handles signals behind a call, at the beginning of a function, and between two rounds of a loop. So
+    `answer += starmap(..)`, which calls the library and stores what it tells, is one step, and so is all that stands between calls.
+    Before Python 3.11 it handles them elsewhere too, and an answer may be lost on its way to the caller.
+    """
+
+    keeps_open = False
+
+    def __init__(self, hub: Optional[int], things: Optional[Dict[int, Any]]) -> None:
+        self._hub = hub
+        self._has_things = things is not None
+        self._things = {} if things is None else things
+        self._put: DefaultDict[int, int] = defaultdict(int)  # how many objects each process has sent, or tried to
+        self._calls: Dict[int, _Call] = {}  # those that are open or being made
+        self._awaited: Dict[int, bool] = {}  # the processes for whose answers a thread waits
+
+    def __getitem__(self, asked: Any) -> Any:
+        if asked.__class__ is tuple:
+            self.ask(asked[0], (asked[1:],), False, False, 0)
+            asked = asked[0]
+            if self.keeps_open or self._calls[asked][0][0].what not in (SENT, GOT):
+                return self
+        call = self._calls[asked]
+        result, gone = self._result(*call), self._gone(*call)
+        [*gone]  # in one step with the rest
+        del self._calls[asked]
+        return result
+
+    def __delitem__(self, pid: int) -> None:
+        gone = self._gone(*self._calls[pid])
+        [*gone]
+        del self._calls[pid]
+
+    def ask(self, pid: int, cases: Tuple[Tuple[Any, ...], ...], is_select: bool, default: bool, word: int, *deadline: int) -> None:
+        numbers: Dict[int, int] = {}
+        things: Dict[int, Any] = {}
+        packed = b''
+        for index, case in enumerate(cases):
+            if self._has_things and len(case) == 2:
+                number = 100 * (self._put[pid] + len(things) + 1) + pid
+                numbers[index], things[number] = number, case[1]
+                case = case[0], number
+            packed += _case(*case)
+        self._begin(pid, ([], is_select, numbers), things, _begin_until if deadline else _begin,
+                    (self._hub, pid, packed, len(cases), default, word, *deadline))
+
+    def ask_other(self, pid: int, name: str, number: int) -> None:
+        self._begin(pid, ([], False, {}), {}, getattr(_LIBRARY, 'chanhub_' + name), (self._hub, pid, number))
+
+    def told(self, pid: int) -> Optional[Tuple[int, int, int, int]]:
+        answer = self._calls.get(pid, ((),))[0]
+        return tuple((told.what, told.fault, told.index, told.port or told.number) for told in answer)[0] if answer else None
+
+    def wait(self, pid: int, nanoseconds: int) -> bool:
+        answer = self._calls.get(pid, ((),))[0]
+        if pid in self._awaited:
+            return False
+        if answer and answer[0].what == WAITING:
+            self._awaited[pid] = True
+            try:
+                answer[:] = starmap(_resume, ((self._hub, pid, nanoseconds),))
+            finally:
+                del self._awaited[pid]
+        return True
+
+    def _begin(self, pid: int, call: _Call, things: Dict[int, Any], function: Callable[..., _Told], asked: Tuple[Any, ...]) -> None:
+        if pid in self._calls:
+            raise Fault(BUSY)
+        answer, unsent, put = call[0], (), 0
+        if things:
+            unsent, put = map(self._things.pop, things, repeat(None)), len(things)
+        self._calls[pid] = call
+        try:
+            if things:
+                self._things.update(things)
+            answer += starmap(function, (asked,))
+            if answer[0].fault == NOT_YET:
+                self._ask_in_turn(pid, answer, function, asked)
+        finally:
+            if answer and answer[0].fault != NOT_YET:
+                self._put[pid] += put
+            else:
+                [*unsent]
+                del self._calls[pid]
+
+    def _ask_in_turn(self, pid: int, answer: List[_Told], function: Callable[..., _Told], asked: Tuple[Any, ...]) -> None:
+        """Makes a call again until its turn in the journal that the hub follows has come. It is a function for the reason that `_give_all`
+        is."""
+        while answer[0].fault == NOT_YET:
+            _LIBRARY.chanhub_turn(self._hub, pid, _SLICE)
+            answer[:] = starmap(function, (asked,))
+
+    def _result(self, answer: List[_Told], is_select: bool, _: Dict[int, int]) -> Any:
+        """Returns the result of an answer that is no exception."""
+        told = answer[0]
+        if told.what == MADE:
+            return told.port
+        value = None
+        if told.what == GOT:
+            value = self._things[told.number] if self._has_things else told.value()
+        return Fired(told.index, value) if is_select and told.what != DEFAULT else value
+
+    def _gone(self, answer: List[_Told], _: bool, numbers: Dict[int, int]) -> Iterable[Any]:
+        """Returns what removes the objects that are no longer in the hub after the call: those it did not send, and the one it received."""
+        if not self._has_things:
+            return ()
+        told = answer[0]
+        gone = [number for index, number in numbers.items() if told.what != SENT or told.index != index]
+        return map(self._things.pop, gone + [told.number] * (told.what == GOT), repeat(None))
 
 
+_CallsType = _calls_type()
 _ENDED = {CLOSED: Closed, DRAINED: Drained, STALLED: Stalled, CANCELLED: Cancelled, TIMED_OUT: TimedOut}
-
-
-def _ended(told: _Told) -> Exception:
-    """Returns the exception for a call that ended without a value."""
-    ended = _ENDED.get(told.what)
-    if told.fault == DIVERGED:
-        return Diverged(told.number)
-    return Fault(told.fault) if ended is None else ended(told.index)
-
-
-# A function from the answer of a call to its result. It raises an exception if the call ended without a value.
-_Gives = Callable[[_Told], Any]
-
-
-def _sent(told: _Told) -> None:
-    if told.what != SENT:
-        raise _ended(told)
-
-
-def _got(told: _Told) -> Value:
-    if told.what != GOT:
-        raise _ended(told)
-    return told.value() if told.is_bytes else told.number
-
-
-def _told_of(got: Union[None, int, bytearray]) -> _Told:
-    """Returns the answer that `_Quick` gives so."""
-    if isinstance(got, bytearray):
-        return _Told.from_buffer(got)
-    return _Told(what=SENT) if got is None else _Told(what=GOT, number=got)
-
-
-def _fired(told: _Told) -> Optional[Fired]:
-    if told.what == GOT:
-        return Fired(told.index, told.value())
-    if told.what == SENT:
-        return Fired(told.index)
-    if told.what == DEFAULT:
-        return None
-    raise _ended(told)
-
-
-def _received(things: Dict[int, Any], told: _Told) -> Any:
-    """Takes the object with the number that was received, and returns it. An interrupt may follow, and then this is called again."""
-    if not hasattr(told, 'thing'):
-        vars(told).update(zip(('thing',), starmap(things.pop, ((told.number,),))))  # within one step of the interpreter
-    return told.thing
-
-
-def _sent_thing(things: Dict[int, Any], number: int) -> _Gives:
-    """Returns the function for the result of a send of the object with this number. If it was not sent, the table forgets it."""
-    def gives(told: _Told) -> None:
-        if told.what != SENT:
-            things.pop(number, None)
-        _sent(told)
-    return gives
-
-
-def _got_thing(things: Dict[int, Any]) -> _Gives:
-    """Returns the function for the result of a receive of an object."""
-    def gives(told: _Told) -> Any:
-        return _received(things, told) if told.what == GOT else _got(told)
-    return gives
-
-
-def _fired_thing(things: Dict[int, Any], numbers: Dict[int, int]) -> _Gives:
-    """Returns the function for the result of a select, the cases of which send the objects with these numbers."""
-    def gives(told: _Told) -> Optional[Fired]:
-        for index, number in numbers.items():
-            if told.what != SENT or told.index != index:
-                things.pop(number, None)
-        return Fired(told.index, _received(things, told)) if told.what == GOT else _fired(told)
-    return gives
-
-
-def _made(told: _Told) -> int:
-    if told.what != MADE:
-        raise _ended(told)
-    return told.port
-
-
-def _done(told: _Told) -> None:
-    if told.what != DONE:
-        raise _ended(told)
 
 
 class _To:
@@ -652,20 +681,6 @@ def _open_following(journal: bytes, goes_on: bool) -> ctypes.c_void_p:
     return handle
 
 
-def _numbers_sent(journal: bytes, clock: Optional[int]) -> Dict[int, Iterator[int]]:
-    """Returns the numbers that each process sends in a journal, in order, also those of the cases of its selects. A call that
-    wakes the clock has them twice there, and once here."""
-    sent: Dict[int, List[int]] = {}
-    wakes = None
-    for line in journal.decode().splitlines()[2:]:
-        pid, step, *fields = line.split()
-        cases = [fields[1]] if step == 'send' else [field.partition(':')[2] for field in fields[1:] if field.startswith('s')]
-        if step in ('send', 'select') and pid != wakes:
-            sent.setdefault(int(pid), []).extend(int(value) for value in cases if value.isdigit())
-        wakes = pid if step == 'cancel' and int(fields[0]) == clock else None
-    return {pid: iter(numbers) for pid, numbers in sent.items()}
-
-
 def _free(handle: ctypes.c_void_p, opener: int, chapters: Optional[_To]) -> None:
     """Frees a hub and gives the chapters that are left, except in a forked child, where a thread that does not exist may hold its
     lock."""
@@ -686,9 +701,9 @@ class Hub:
     and `cancel`.
 
     With `objects`, a value is any object, and whoever receives it gets this object itself. The hub carries a number for it, which the
-    journal shows: the first object that is given to a send has number 0, and so on. The object stays in a table until it is received.
-    If nobody receives it, it goes with the hub. If its send raises an exception of the hub, it was not sent, and the table has it no
-    longer.
+    journal shows: 100 * k + pid for the k-th object that process `pid` sends or offers in a select, from 1. The object stays in a table
+    until it is received. If nobody receives it, it goes with the hub. If its send raises an exception of the hub, it was not sent, and
+    the table has it no longer.
 
     Without `keep`, the hub makes at most `limit` steps (1 to 1,000,000, the default), not counting exits. Its journal has them all.
 
@@ -712,9 +727,10 @@ class Hub:
     - A function. It gets the text, as `journal` returns it, or None if there was no memory for it. It runs in a thread that calls on
       the hub, as a rule the one whose call made the chapter fall out, before that call returns or waits. Other calls go on meanwhile,
       until another chapter has fallen out: then they end once the function has returned. The function may look at the hub and read
-      its journals. It must not call through a seat, cut the hub or end it. If it raises an Exception, no step fails for that; the first
-      one is reported by sys.unraisablehook. If Ctrl-C interrupts it, the call in whose thread it ran raises KeyboardInterrupt, and
-      `seat.resume()` returns what the call would have. The function gets that chapter again, before the next one.
+      its journals. It must not call through a seat, cut the hub or end it. If it raises an Exception, no
+      step fails for that; the first one is reported by sys.unraisablehook. If Ctrl-C interrupts it, the call in whose thread it ran
+      raises KeyboardInterrupt, and `seat.resume()` returns what the call would have. The function gets that chapter again, before
+      the next one.
 
     The hub ends when a `with Hub` block ends. Without such a block it ends when it is freed, which it never is if its function refers to
     it. If it has not ended when the interpreter does, `chapters` does not get the chapters that it keeps.
@@ -772,42 +788,34 @@ class Hub:
         procs = int(journal.split(None, 5)[4]) - timeouts  # the clock is one more
         hub._set_up(handle, procs, objects=objects, timeouts=timeouts)
         hub._follows = True
-        hub._quick = None  # its calls wait for their turn
-        if objects:
-            hub._sent = _numbers_sent(journal, procs if timeouts else None)
-            hub._numbers = count(1 << 63)  # those that the journal has not
         return hub
 
     def _set_up(self, handle: ctypes.c_void_p, procs: int, *, is_endless: bool = False, objects: bool = False,
                 timeouts: bool = False) -> None:
         """Sets what a new hub has."""
         self._handle = handle
-        self._live: Optional[ctypes.c_void_p] = handle  # None once no new call may begin
+        # The objects whose numbers are in the hub, if it has `objects`.
+        self._things: Optional[Dict[int, Any]] = {} if objects else None
+        self._calls = _CallsType(handle.value, self._things)
+        self._live: Optional[_Calls] = self._calls  # None once no new call may begin
         self._procs = procs
         self._is_endless = is_endless
         self._follows = False
         self._has_timeouts = timeouts
         # The chapters that fell out, if they go to a function.
         self._fallen = None if self._chapters is None else self._chapters.fallen
+        self._calls.keeps_open = self._fallen is not None
         # Set once `chapters` has those that the hub kept when it ended, too.
         self._has_all = threading.Event()
         self._opener = os.getpid()
-        # The open calls that an exception interrupted, by process: the function for each one's result, and its last answer.
-        self._left: Dict[int, Tuple[_Gives, _Told]] = {}
-        # The processes of those calls for which a thread waits again.
-        self._resumed: Set[int] = set()
         self._settling = threading.RLock()
-        # The objects whose numbers are in the hub, if it has `objects`, and the numbers to come.
-        self._things: Optional[Dict[int, Any]] = {} if objects else None
-        self._numbers = count()
-        # If the hub follows a journal, the numbers that each process has there.
-        self._sent: Dict[int, Iterator[int]] = {}
+        # How many stalls each process was told, and how many any was when the hub ended.
+        self._stalls: DefaultDict[int, int] = defaultdict(int)
+        self._seen_stalls = 0
         # For each process that is awaited, the thread that makes its calls.
         self._executors: Dict[int, ThreadPoolExecutor] = {}
         # For each process and port, the receives that were begun for a task that was cancelled.
         self._unclaimed: DefaultDict[Tuple[int, int], Deque[Future[Any]]] = defaultdict(deque)
-        # Begins sends and receives, where that can be quick: None once no new call may begin.
-        self._quick = _Quick and self._fallen is None and _Quick(handle.value, _BEGIN) or None
         self._free = weakref.finalize(self, _free, handle, self._opener, self._chapters)
         # When the interpreter exits, other threads may still call on the hub.
         self._free.atexit = False
@@ -817,12 +825,15 @@ class Hub:
         return self
 
     def __exit__(self, *_: object) -> None:
-        """Ends the hub. From then on no call begins, except exits. Each process that is not waiting exits. Each waiting call ends,
-        with TimedOut if it has a timeout, or Stalled if nothing else ends it, and then its process exits too.
+        """Ends the hub. From then on no call begins, except exits. Each process that is not waiting exits. Each waiting call raises
+        HubEnded, if nothing else ends it, and then its process exits too.
 
         If the hub has `chapters`, this returns once all processes have exited and `chapters` has got all chapters."""
         if self._is_here():
-            self._live = self._quick = None
+            if self._live is not None:
+                self._seen_stalls = max(self._stalls.values(), default=0)
+                self._calls.keeps_open = True
+                self._live = None
             if self._follows:
                 _LIBRARY.chanhub_stop(self._handle)
             self._settle()
@@ -836,25 +847,24 @@ class Hub:
         """Whether this operating-system process opened the hub. False in a forked child."""
         return os.getpid() == self._opener
 
-    def _next_number(self, pid: int) -> int:
-        """Returns the number for the next object that this process sends."""
-        number = next(self._sent.get(pid, iter(())), None) if self._sent else None
-        return next(self._numbers) if number is None else number
-
     def _owned(self) -> ctypes.c_void_p:
         """Returns the handle, even if the hub has ended. Raises RuntimeError in a forked child."""
         if not self._is_here():
             raise RuntimeError('the hub belongs to the process that opened it, not to a forked child')
         return self._handle
 
+    def _callable(self) -> _Calls:
+        """Returns what makes new calls. Raises HubEnded once the hub has ended."""
+        if self._live is None:
+            self._owned()
+            raise HubEnded
+        return self._live
+
     @property
     def handle(self) -> ctypes.c_void_p:
-        """The C library's pointer to the hub, for a new call. Raises ValueError once the hub has ended."""
-        handle = self._live
-        if handle is None:
-            self._owned()
-            raise ValueError('the hub has ended')
-        return handle
+        """The C library's pointer to the hub, for a new call. Raises HubEnded once the hub has ended."""
+        self._callable()
+        return self._handle
 
     def seat(self, pid: int) -> Seat:
         """Returns a seat, through which one thread at a time calls as process `pid`."""
@@ -912,6 +922,20 @@ class Hub:
         finally:
             _LIBRARY.chanhub_free_text(text)
 
+    def _attend(self) -> None:
+        """Does what a thread has to do once its call was asked or answered: gives chapters, and settles a hub that has ended."""
+        if self._live is None:
+            self._settle()
+        self._give_fallen()
+
+    def _error(self, pid: int, what: int, fault: int, index: int, number: int) -> Exception:
+        """Returns the exception for this answer. A stall that another process was told before the hub ended was none of the end."""
+        if fault == DIVERGED:
+            return Diverged(number)
+        if self._live is None and (fault == GONE or what == TIMED_OUT or what == STALLED and self._stalls[pid] >= self._seen_stalls):
+            return HubEnded()
+        return Fault(fault) if what == FAULT else _ENDED[what](index)
+
     def _give_fallen(self) -> None:
         """Gives the chapters that fell out, if they go to a function."""
         if self._chapters and self._fallen and not self._fallen.empty():
@@ -940,19 +964,11 @@ class Hub:
 
     def _exit(self, pid: int) -> _Told:
         """Exits the process if it is not waiting. If it waits with a timeout, that passes. Returns the answer."""
-        self._expire(pid)
-        if pid in self._left and pid not in self._resumed:
-            gives, told = self._left[pid]
-            if told.what == WAITING:
-                # Within one step of the interpreter.
-                self._left.update(zip((pid,), zip((gives,), starmap(_resume, ((self._handle, pid, 0),)))))
-        exited: _Told = _LIBRARY.chanhub_exit(self._handle, pid)
-        return exited
-
-    def _expire(self, pid: int) -> None:
-        """Has the timeout of the process's waiting call pass, if it has one."""
         if self._has_timeouts:
             _LIBRARY.chanhub_expire(self._handle, pid)
+        self._calls.wait(pid, 0)  # nobody may be there to resume it
+        exited: _Told = _LIBRARY.chanhub_exit(self._handle, pid)
+        return exited
 
     def _add_kept(self, chapters: _To) -> None:
         """Adds the chapters that the hub keeps, once no step can follow."""
@@ -967,16 +983,16 @@ class Hub:
 class Table:
     """Holds objects of any type, so that channels can pass them by number.
 
-    One thread calls `seat.send(port, table.put(it))`, and another calls `table.take(seat.recv(port))`.
+    One thread calls `seat.send(port, table.put(seat, it))`, and another calls `table.take(seat.recv(port))`.
     """
 
     def __init__(self) -> None:
-        self._numbers = count()
+        self._numbers: DefaultDict[int, Iterator[int]] = defaultdict(lambda: count(1))
         self._things: Dict[int, Any] = {}
 
-    def put(self, thing: Any) -> int:
-        """Stores an object and returns its number."""
-        number = next(self._numbers)
+    def put(self, seat: Seat, thing: Any) -> int:
+        """Stores an object and returns its number: 100 * k + pid for the k-th that the seat's process puts here, as in a hub of objects."""
+        number = 100 * next(self._numbers[seat.pid]) + seat.pid
         self._things[number] = thing
         return number
 
@@ -1007,37 +1023,31 @@ class Seat:
 
     @property
     def waits(self) -> bool:
-        """Whether Ctrl-C interrupted a call of the process that is still open. `resume` waits for its answer; until then, every other
-        call of the process raises Fault 3."""
-        return self.pid in self.hub._left
+        """Whether a call of the process is open, such as one that Ctrl-C interrupted. `resume` waits for its answer; until then, every
+        other call of the process raises Fault 3."""
+        return self.hub._calls.told(self.pid) is not None
 
     def resume(self) -> Union[None, Value, Fired]:
         """Resumes the wait of the call that Ctrl-C interrupted, and returns or raises what that call would have.
 
         Raises Fault 12 if there is no such call, and Fault 3 if another thread is waiting for its answer.
         """
-        hub, pid = self.hub, self.pid
+        hub = self.hub
         hub._owned()
-        is_resumed = False
-        try:
-            with hub._settling:
-                if pid not in hub._left:
-                    raise Fault(NOT_PARKED)
-                if pid in hub._resumed:
-                    raise Fault(BUSY)
-                gives, told = hub._left[pid]
-                is_resumed = True
-                hub._resumed.add(pid)
-            given: Union[None, Value, Fired] = self._await(gives, (told,))
-        except BaseException:
-            if is_resumed:
-                hub._resumed.discard(pid)
-            raise
-        return given
+        with hub._settling:
+            if not self.waits:
+                raise Fault(NOT_PARKED)
+            if not hub._calls.wait(self.pid, 0):
+                raise Fault(BUSY)
+        return self._result()
 
     def make(self, cap: int) -> Port:
         """Makes a channel that buffers up to `cap` values, 0 to 1,024, and returns its port. Ports are numbered from 1."""
-        return Port(self._ask(_made, _LIBRARY.chanhub_make, _within('capacity', cap, 2 ** 32 - 1)), self)
+        calls = self.hub._callable()
+        calls.ask_other(self.pid, 'make', _within('capacity', cap, 2 ** 32 - 1))
+        port = Port(self._told()[-1], self)
+        del calls[self.pid]
+        return port
 
     def port(self, port: int) -> Port:
         """Returns this port as one through which this process acts."""
@@ -1052,31 +1062,20 @@ class Seat:
         Unless the hub has `objects`, raises TypeError if the value is neither an int nor bytes, and ValueError if it does not fit into
         64 bits or 32 bytes.
         """
-        hub = self.hub
-        quick = None if hub._left or timeout is not None else hub._quick
-        if hub._things is None:
-            if quick is None or self._begin(_sent, quick, (self.pid, port, value)) is NotImplemented:
-                self._call(_sent, _send_case(port, value), timeout=timeout)
-        elif quick is None:
-            number = hub._next_number(self.pid)
-            self._call(_sent_thing(hub._things, number), _send_case(port, number), offered={number: value}, timeout=timeout)
-        else:
-            number = next(hub._numbers)
-            hub._things[number] = value
-            if self._begin(None, quick, (self.pid, port, number), hub._things) is NotImplemented:
-                del hub._things[number]
-                _send_case(port, number)  # says what is wrong
+        if timeout is not None:
+            self._call(((port, value),), timeout)
+            return
+        calls = self.hub._live or self.hub._callable()
+        if calls[self.pid, port, value] is calls:
+            self._result()
 
     def recv(self, port: int, timeout: Optional[float] = None) -> Any:
         """Receives a value and returns it. Waits until there is one. With a timeout, as `send`."""
-        hub = self.hub
-        things = hub._things
-        gives = _got if things is None else _got_thing(things)
-        if hub._quick is not None and timeout is None and not hub._left:
-            got = self._begin(gives, hub._quick, (self.pid, port), things)
-            if got is not NotImplemented:
-                return got
-        return self._call(gives, _recv_case(port), timeout=timeout)
+        if timeout is not None:
+            return self._call(((port,),), timeout)
+        calls = self.hub._live or self.hub._callable()
+        got = calls[self.pid, port]
+        return self._result() if got is calls else got
 
     def drain(self, port: int) -> Iterator[Any]:
         """Receives values and yields them, until the port is closed and empty."""
@@ -1095,20 +1094,13 @@ class Seat:
         `random.getrandbits(64)` for a fair choice. If no case can proceed, `select` returns None if `default` is true, and
         otherwise waits. With a timeout, as `send`.
         """
-        gives: _Gives = _fired
-        offered: Dict[int, Any] = {}
-        if self.hub._things is not None:
-            numbers = {index: self.hub._next_number(self.pid) for index, case in enumerate(cases) if isinstance(case, Send)}
-            offered = {number: cases[index].value for index, number in numbers.items()}
-            cases = [Send(case.port, numbers[index]) if index in numbers else case for index, case in enumerate(cases)]
-            gives = _fired_thing(self.hub._things, numbers)
-        packed = b''.join(map(_case, cases))
-        fired: Optional[Fired] = self._call(gives, packed, len(cases), default, _within('word', word, 2 ** 64 - 1), offered, timeout)
+        fired: Optional[Fired] = self._call(tuple(cases), timeout, True, default, _within('word', word, 2 ** 64 - 1))
         return fired
 
     def close(self, port: int) -> None:
         """Closes a port. Waiting sends raise Closed, and waiting receives raise Drained."""
-        self._ask(_done, _LIBRARY.chanhub_close, _within('port', port, 65535))
+        self.hub._callable().ask_other(self.pid, 'close', _within('port', port, 65535))
+        self._result()
 
     def exit(self) -> None:
         """Ends the process, so that a deadlock among the others can be reported. Does nothing if it has already exited.
@@ -1120,84 +1112,25 @@ class Seat:
             raise Fault(BUSY)
         told = _LIBRARY.chanhub_exit(handle, self.pid)
         while told.fault == NOT_YET:
-            self._wait_for_turn()
+            _LIBRARY.chanhub_turn(handle, self.pid, _SLICE)
             told = _LIBRARY.chanhub_exit(handle, self.pid)
-        if told.fault != GONE:
-            _done(told)
+        if told.fault and told.fault != GONE:
+            raise self.hub._error(self.pid, told.what, told.fault, 0, told.number)
 
     def cancel(self, other: int) -> None:
         """Ends the waiting call of another process with Cancelled. Raises Fault 12 if that process has no waiting call.
 
         Requires edition 2; in edition 1 it raises Fault 13.
         """
-        self._ask(_done, _LIBRARY.chanhub_cancel, _within('process', other, 255))
+        self.hub._callable().ask_other(self.pid, 'cancel', _within('process', other, 255))
+        self._result()
 
-    def _wait_for_turn(self) -> None:
-        """Waits until the process has its turn in the journal that the hub follows. The main thread waits a short slice."""
-        _LIBRARY.chanhub_turn(self.hub._handle, self.pid, _SLICE if get_ident() == _main else _FOR_EVER)
-
-    def _ask(self, gives: _Gives, call: Callable[..., _Told], number: int) -> Any:
-        """Makes a call that does not wait for another process. Raises Fault 3 if a call of the process is open."""
-        if self.waits:
-            raise Fault(BUSY)
-        return self._await(gives, starmap(call, repeat((self.hub.handle, self.pid, number))))
-
-    def _give(self, gives: _Gives, told: _Told) -> Any:
-        """Returns the result of a call with this answer. The hub may have ended meanwhile."""
-        if self.hub._live is not None:
-            return gives(told)
-        self.hub._settle()
-        try:
-            return gives(told)
-        except Fault as fault:
-            if fault.number == GONE:
-                raise ValueError('the hub has ended') from None
-            raise
-
-    def _call(self, gives: _Gives, cases: bytes, count: int = 1, default: bool = False, word: int = 0,
-              offered: Optional[Dict[int, Any]] = None, timeout: Optional[float] = None) -> Any:
-        """Makes a call of these cases. The main thread waits in short slices, so that it can be interrupted. If a function gets the
-        chapters, each thread gives them before it waits. The hub's table gets the objects that are offered, by their numbers."""
-        hub = self.hub
-        call = (hub._live or hub.handle, self.pid, cases, count, default, word)
-        if timeout is not None:
-            call += self._deadline(timeout),
-        if hub._left and self.waits:
-            raise Fault(BUSY)
-        if offered and hub._things is not None:
-            hub._things.update(offered)
-        if timeout is None and get_ident() != _main and not hub._fallen and not hub._follows:
-            return self._give(gives, _select(*call))
-        return self._await(gives, starmap(_begin if timeout is None else _begin_until, repeat(call)))
-
-    def _begin(self, gives: Optional[_Gives], quick: Any, asked: Tuple[int, ...], things: Any = None) -> Any:
-        """Makes a send or a receive. Returns NotImplemented, and has made none, if `quick` does not take it. If it has to wait or ends
-        otherwise, it goes on as any call. If there are things, a number stands for one of them; `gives` is None for a send of one.
-
-        No answer is lost here either: a subscript, unlike a call, and its store are one step of the interpreter.
-        """
-        hub = self.hub
-        got = thing = told = _NOTHING
-        try:
-            got = quick[asked]
-            if got is NotImplemented or got.__class__ is not bytearray and hub._live is not None:
-                if things is None or got is None or got is NotImplemented:
-                    return got
-                thing = things[got]
-                del things[got]
-                return thing
-            gives = gives or _sent_thing(things, asked[-1])
-            told = map(_told_of, (got,))
-            return self._await(gives, told)
-        except BaseException:
-            if got is not _NOTHING and got is not NotImplemented:
-                # `_await` keeps what it has taken itself.
-                for left in map(_told_of, (got,)) if told is _NOTHING else told:
-                    if thing is not _NOTHING:
-                        left.thing = thing
-                        things.pop(got, None)
-                    hub._left[self.pid] = gives or _sent_thing(things, asked[-1]), left
-            raise
+    def _call(self, cases: Tuple[Tuple[Any, ...], ...], timeout: Optional[float], is_select: bool = False, default: bool = False,
+              word: int = 0) -> Any:
+        """Makes a call of these cases, and returns its result."""
+        deadline = () if timeout is None else (self._deadline(timeout),)
+        self.hub._callable().ask(self.pid, cases, is_select, default, word, *deadline)
+        return self._result()
 
     def _deadline(self, timeout: float) -> int:
         """Returns the time on the library's clock at which this timeout passes."""
@@ -1207,50 +1140,29 @@ class Seat:
             raise ValueError('a timeout must not be negative')
         return monotonic_ns() + int(min(timeout, _LONGEST) * 10 ** 9)
 
-    def _await(self, gives: _Gives, asked: Iterable[_Told]) -> Any:
-        """Waits for the final answer of a call, and returns the call's result. `asked` makes the call, and yields its first answer. If the
-        call's turn has not come, `asked` makes it again.
+    def _result(self) -> Any:
+        """Waits for the answer of the open call, ends the call, and returns its result."""
+        self._told()
+        return self.hub._calls[self.pid]
 
-        An exception may occur between any two steps of the interpreter: KeyboardInterrupt, or any other that a signal handler raises.
-        No answer is lost, because `answer += asked` calls the library and stores its answer within one step. The loops are in
-        another function, since in Python 3.13 a `try` misses an exception between two rounds of a loop in it.
-        """
-        hub, pid = self.hub, self.pid
-        answer: List[_Told] = []
-        try:
-            answer += islice(asked, 1)
-            told = answer[0]
-            if told.what == WAITING or told.fault == NOT_YET or hub._fallen:
-                told = self._last_answer(asked, answer)
-            if hub._left:
-                hub._left.pop(pid, None)
-                hub._resumed.discard(pid)
-            try:
-                return gives(told) if hub._live else self._give(gives, told)
-            except (Ended, Fault, ValueError):
-                answer.clear()
-                raise
-        except BaseException:
-            if answer:
-                hub._left[pid] = gives, answer[0]
-            raise
-
-    def _last_answer(self, asked: Iterable[_Told], answer: List[_Told]) -> _Told:
-        """Waits for the final answer, and returns it. `answer` always has the last one, unless the call's turn has not come."""
-        hub, pid = self.hub, self.pid
-        while answer[0].fault == NOT_YET:
-            answer.clear()
-            self._wait_for_turn()
-            answer += islice(asked, 1)
-        if hub._fallen:
-            hub._give_fallen()
-        while answer[0].what == WAITING:
-            if hub._live is None:
-                hub._expire(pid)  # it began to wait when the hub had ended
-            answer[:] = starmap(_resume, ((hub._handle, pid, _SLICE if get_ident() == _main else _FOR_EVER),))
-            if answer[0].fault and answer[0].what == WAITING:  # it has timed out, but there is no memory to end it
-                raise Fault(answer[0].fault)
-        return answer[0]
+    def _told(self) -> Tuple[int, int, int, int]:
+        """Waits for the answer of the open call, and returns it. If it is an exception, ends the call and raises that. The main thread
+        waits in short slices, so that it can be interrupted: then the call stays open."""
+        hub, pid, calls = self.hub, self.pid, self.hub._calls
+        hub._attend()
+        told = calls.told(pid)
+        while told[0] == WAITING:
+            calls.wait(pid, _SLICE if get_ident() == _main else _FOR_EVER)
+            told = calls.told(pid)
+            if told[0] == WAITING and told[1]:  # it has timed out, but there is no memory to end it
+                raise Fault(told[1])
+            hub._attend()
+        if told[0] in _ENDED or told[0] == FAULT:
+            error = hub._error(pid, *told)
+            hub._stalls[pid] += told[0] == STALLED
+            del calls[pid]
+            raise error
+        return told
 
     def _submit(self, call: Callable[..., Any], *arguments: Any) -> Future[Any]:
         """Has the thread that makes the awaited calls of the process make this one."""

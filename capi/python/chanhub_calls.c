@@ -1,34 +1,204 @@
-/* Begins a send of a number, or a receive, for chanhub.py: what a call of the library takes by ctypes is several times what the hub takes.
+/* The calls of a hub, for chanhub.py: by ctypes a call takes several times what the hub takes.
  *
- * Quick(hub, begin) has the addresses of a hub and of chanhub_begin. quick[pid, port, number] begins a send, quick[pid, port] a receive.
- * Each gives, in one step of the interpreter: None if the number was sent, the number that was received, or the bytes of any other
- * chanhub_told in a bytearray. NotImplemented stands for a port or a value that it does not take; then nothing was called.
+ * Calls(hub, things) makes calls on the hub at this address, one at a time for each process. `things` is None, or the dict of the objects
+ * whose numbers are in the hub. What a call asked and what it was answered is noted here, so an exception of a signal handler comes before
+ * a call or behind it, and loses no answer:
+ *
+ *     calls[pid, port]                makes a receive, and gives its result. Gives itself if there is none yet, or it is an exception:
+ *     calls[pid, port, value]         then the call is open. The same for a send
+ *     calls.ask(pid, cases, is_select, default, word[, deadline]), calls.ask_other(pid, name, number)
+ *                                     make any other call, which is open then. A case is (port,) or (port, value)
+ *     calls.told(pid)                 what, fault, index, and number or port of the open call's answer; None if no call is open
+ *     calls.wait(pid, nanoseconds)    waits for its answer. Gives False, and does nothing, if a thread is in the library for the process
+ *     calls[pid], del calls[pid]      end the open call, whose answer has come; the first gives its result
+ *
+ * The interpreter handles signals behind a call, but not behind a subscript. So no exception comes between `calls[pid]` and a `return`.
+ * If `keeps_open` is set, each call stays open until it is ended so.
  *
  * One file serves every Python from 3.8 on, since it keeps to the stable interface.
  */
 #define Py_LIMITED_API 0x03080000
 #define PY_SSIZE_T_CLEAN
 #include <Python.h>
+#include <structmember.h>
 
 #include "chanhub.h"
 
-typedef chanhub_told begin(chanhub *hub, unsigned pid, const chanhub_case *cases, size_t count, bool has_default, uint64_t word);
+enum { MOST_PROCS = 64, MOST_CASES = 16, SLICE = 50000000 /* nanoseconds in which no signal is handled */ };
 
-struct quick {
-    PyObject_HEAD
-    chanhub *hub;
-    begin *begin;
+typedef chanhub_told other(chanhub *hub, unsigned pid, unsigned number);
+
+/* What `use` was given: the functions of the library, and of chanhub.py what packs a case, and two types. */
+static struct {
+    chanhub_told (*begin)(chanhub *hub, unsigned pid, const chanhub_case *cases, size_t count, bool has_default, uint64_t word);
+    chanhub_told (*begin_until)(chanhub *hub, unsigned pid, const chanhub_case *cases, size_t count, bool has_default, uint64_t word,
+                                uint64_t deadline);
+    chanhub_told (*resume)(chanhub *hub, unsigned pid, uint64_t nanoseconds);
+    bool (*turn)(chanhub *hub, unsigned pid, uint64_t nanoseconds);
+    other *make, *close, *cancel;
+    PyObject *pack, *fired, *fault;
+} used;
+
+/* What is asked: another call with a number, or a call of these cases. */
+struct asked {
+    other *other;
+    unsigned number;
+    chanhub_case *cases;
+    PyObject **values; /* what the cases send; NULL for a receive */
+    size_t count;
+    bool is_select, has_default, has_deadline;
+    uint64_t word, deadline;
 };
 
-static PyObject *new_quick(PyTypeObject *type, PyObject *arguments, PyObject *Py_UNUSED(named)) {
-    unsigned long long hub, calls;
-    if (!PyArg_ParseTuple(arguments, "KK", &hub, &calls)) return NULL;
-    struct quick *quick = (struct quick *)((allocfunc)PyType_GetSlot(type, Py_tp_alloc))(type, 0);
-    if (!quick) return NULL;
-    quick->hub = (chanhub *)(uintptr_t)hub;
-    quick->begin = (begin *)(uintptr_t)calls;
-    return (PyObject *)quick;
+/* The call of a process. */
+struct call {
+    bool is_open;   /* it was asked, and has not been ended */
+    bool is_inside; /* a thread is in the library for it */
+    bool is_select;
+    uint32_t sends; /* a bit for each case that sends an object */
+    uint64_t put;   /* how many objects the process has sent, or tried to */
+    chanhub_told told;
+};
+
+struct calls {
+    PyObject_HEAD
+    chanhub *hub;
+    PyObject *things; /* NULL if values are numbers and bytes */
+    char keeps_open;
+    struct call of[MOST_PROCS + 1]; /* the last one for processes that no hub has */
+};
+
+static struct call *call_of(struct calls *calls, unsigned pid) {
+    return &calls->of[pid < MOST_PROCS ? pid : MOST_PROCS];
 }
+
+/* ---- The table of objects. ---- */
+
+/* The number of the k-th object that a process puts, from 1: it is of the process and its own count alone. */
+static PyObject *numbered(unsigned pid, uint64_t k) {
+    return PyLong_FromUnsignedLongLong(100 * k + pid);
+}
+
+static void forget(struct calls *calls, PyObject *number) {
+    if (!number || PyDict_DelItem(calls->things, number) < 0) PyErr_Clear();
+    Py_XDECREF(number);
+}
+
+/* Forgets the objects that are no longer in the hub after this call: those that it did not send, and the one that it received. */
+static void settle(struct calls *calls, unsigned pid, const struct call *call) {
+    const chanhub_told *told = &call->told;
+    uint64_t k = call->put;
+    for (unsigned index = MOST_CASES + 1; index-- > 0;) {
+        if (!(call->sends >> index & 1)) continue;
+        if (told->what != CHANHUB_SENT || told->index != index) forget(calls, numbered(pid, k));
+        k--;
+    }
+    if (calls->things && told->what == CHANHUB_GOT) forget(calls, PyLong_FromUnsignedLongLong(told->value.number));
+}
+
+/* Puts the objects that the call sends into the table. If there is no memory, none is there. */
+static bool puts_things(struct calls *calls, unsigned pid, const struct asked *asked) {
+    struct call *call = call_of(calls, pid);
+    for (size_t index = 0; index < asked->count; index++) {
+        if (!asked->values[index]) continue;
+        PyObject *number = numbered(pid, ++call->put);
+        call->sends |= (uint32_t)1 << index;
+        if (!number || PyDict_SetItem(calls->things, number, asked->values[index]) < 0) {
+            Py_XDECREF(number);
+            return false;
+        }
+        asked->cases[index].value.number = 100 * call->put + pid;
+        Py_DECREF(number);
+    }
+    return true;
+}
+
+/* ---- How a call begins, waits and ends. ---- */
+
+static chanhub_told ask_once(struct calls *calls, unsigned pid, const struct asked *asked) {
+    if (asked->other) return asked->other(calls->hub, pid, asked->number);
+    if (!asked->has_deadline) return used.begin(calls->hub, pid, asked->cases, asked->count, asked->has_default, asked->word);
+    return used.begin_until(calls->hub, pid, asked->cases, asked->count, asked->has_default, asked->word, asked->deadline);
+}
+
+/* Makes the call once its turn has come, in a hub that follows a journal. Its fault is NOT_YET, and an exception is set, if a
+ * signal handler raised one before. */
+static chanhub_told ask_in_turn(struct calls *calls, unsigned pid, const struct asked *asked) {
+    chanhub_told told;
+    do {
+        Py_BEGIN_ALLOW_THREADS
+        told = ask_once(calls, pid, asked);
+        if (told.fault == CHANHUB_NOT_YET) used.turn(calls->hub, pid, SLICE);
+        Py_END_ALLOW_THREADS
+    } while (told.fault == CHANHUB_NOT_YET && PyErr_CheckSignals() == 0);
+    return told;
+}
+
+/* Whether the call is open now. Otherwise nothing was asked, and an exception is set. */
+static bool opens(struct calls *calls, unsigned pid, const struct asked *asked) {
+    struct call *call = call_of(calls, pid);
+    if (call->is_open || call->is_inside) {
+        PyObject *busy = PyObject_CallFunction(used.fault, "i", CHANHUB_BUSY);
+        if (busy) PyErr_SetObject(used.fault, busy);
+        Py_XDECREF(busy);
+        return false;
+    }
+    uint64_t put = call->put;
+    call->sends = 0;
+    call->told = (chanhub_told){ 0 };
+    call->is_select = asked->is_select;
+    call->is_inside = true;
+    if (!calls->things || puts_things(calls, pid, asked)) {
+        chanhub_told told = ask_in_turn(calls, pid, asked);
+        if (told.fault != CHANHUB_NOT_YET) call->told = told;
+    }
+    call->is_inside = false;
+    call->is_open = call->told.what;
+    if (!call->is_open) {
+        PyObject *type, *error, *trace;
+        PyErr_Fetch(&type, &error, &trace);
+        settle(calls, pid, call);
+        PyErr_Restore(type, error, trace);
+        call->put = put;
+    }
+    return call->is_open;
+}
+
+/* What a receive got. */
+static PyObject *value_got(struct calls *calls, const chanhub_value *value) {
+    if (value->is_bytes) return PyBytes_FromStringAndSize((const char *)value->bytes, value->length);
+    PyObject *number = PyLong_FromUnsignedLongLong(value->number);
+    if (!calls->things || !number) return number;
+    PyObject *thing = PyDict_GetItemWithError(calls->things, number);
+    if (!thing && !PyErr_Occurred()) PyErr_SetObject(PyExc_KeyError, number);
+    Py_DECREF(number);
+    Py_XINCREF(thing);
+    return thing;
+}
+
+/* The result of an answer that is no exception. */
+static PyObject *result_of(struct calls *calls, const struct call *call) {
+    const chanhub_told *told = &call->told;
+    if (told->what == CHANHUB_MADE) return PyLong_FromLong(told->port);
+    PyObject *value = told->what == CHANHUB_GOT ? value_got(calls, &told->value) : Py_BuildValue("");
+    if (!value || !call->is_select || told->what == CHANHUB_DEFAULT) return value;
+    return PyObject_CallFunction(used.fired, "iN", told->index, value);
+}
+
+static void end_call(struct calls *calls, unsigned pid) {
+    struct call *call = call_of(calls, pid), ended = *call;
+    call->is_open = false;
+    settle(calls, pid, &ended);
+}
+
+static PyObject *take(struct calls *calls, unsigned pid) {
+    if (PyErr_CheckSignals() < 0) return NULL;
+    PyObject *result = result_of(calls, call_of(calls, pid));
+    if (result) end_call(calls, pid);
+    return result;
+}
+
+/* ---- What Python calls. ---- */
 
 /* Whether it is an integer from 0 to `most`, which is stored then. */
 static bool reads(PyObject *object, uint64_t most, uint64_t *number) {
@@ -41,32 +211,162 @@ static bool reads(PyObject *object, uint64_t most, uint64_t *number) {
     return *number <= most;
 }
 
-static PyObject *begins(PyObject *self, PyObject *asked) {
-    struct quick *quick = (struct quick *)self;
-    Py_ssize_t size = PyTuple_Check(asked) ? PyTuple_Size(asked) : 0;
-    uint64_t pid, port;
-    chanhub_case one = { .sends = size == 3 };
-    if (size < 2 || size > 3 || !reads(PyTuple_GetItem(asked, 0), 255, &pid) || !reads(PyTuple_GetItem(asked, 1), UINT16_MAX, &port) ||
-        (one.sends && !reads(PyTuple_GetItem(asked, 2), UINT64_MAX, &one.value.number))) {
-        Py_INCREF(Py_NotImplemented);
-        return Py_NotImplemented;
+/* Whether this port, and this value if it is not NULL, make a case. Otherwise an exception is set. */
+static bool reads_case(const struct calls *calls, PyObject *port, PyObject *value, chanhub_case *one) {
+    uint64_t number;
+    PyObject *sent = calls->things ? NULL : value;
+    *one = (chanhub_case){ .sends = value };
+    if (reads(port, UINT16_MAX, &number) && (!sent || reads(sent, UINT64_MAX, &one->value.number))) {
+        one->port = (uint16_t)number;
+        return true;
     }
-    one.port = (uint16_t)port;
-    chanhub_told told;
-    Py_BEGIN_ALLOW_THREADS
-    told = quick->begin(quick->hub, (unsigned)pid, &one, 1, false, 0);
-    Py_END_ALLOW_THREADS
-    if (told.what == CHANHUB_GOT && !told.value.is_bytes) return PyLong_FromUnsignedLongLong(told.value.number);
-    if (told.what != CHANHUB_SENT) return PyByteArray_FromStringAndSize((const char *)&told, sizeof told);
-    Py_INCREF(Py_None);
-    return Py_None;
+    PyObject *packed = PyObject_CallFunctionObjArgs(used.pack, port, sent, NULL);
+    if (!packed) return false;
+    memcpy(one, PyBytes_AsString(packed), sizeof *one);
+    Py_DECREF(packed);
+    return true;
 }
 
-static PyType_Slot slots[] = { { Py_tp_new, new_quick }, { Py_mp_subscript, begins }, { 0, NULL } };
-static PyType_Spec spec = { .name = "chanhub_calls.Quick", .basicsize = sizeof(struct quick), .flags = Py_TPFLAGS_DEFAULT, .slots = slots };
-static struct PyModuleDef module = { PyModuleDef_HEAD_INIT, .m_name = "chanhub_calls", .m_size = -1 };
+static PyObject *subscript(PyObject *self, PyObject *key) {
+    struct calls *calls = (struct calls *)self;
+    if (!PyTuple_Check(key)) return take(calls, (unsigned)PyLong_AsUnsignedLong(key));
+    unsigned pid = (unsigned)PyLong_AsUnsignedLong(PyTuple_GetItem(key, 0));
+    PyObject *value = PyTuple_Size(key) == 3 ? PyTuple_GetItem(key, 2) : NULL;
+    chanhub_case one;
+    struct asked asked = { .cases = &one, .values = &value, .count = 1 };
+    if (!reads_case(calls, PyTuple_GetItem(key, 1), value, &one) || !opens(calls, pid, &asked)) return NULL;
+    uint8_t what = call_of(calls, pid)->told.what;
+    if (!calls->keeps_open && (what == CHANHUB_SENT || what == CHANHUB_GOT)) return take(calls, pid);
+    Py_INCREF(self);
+    return self;
+}
+
+static int delete(PyObject *self, PyObject *key, PyObject *Py_UNUSED(none)) {
+    end_call((struct calls *)self, (unsigned)PyLong_AsUnsignedLong(key));
+    return 0;
+}
+
+static PyObject *ask(PyObject *self, PyObject *arguments) {
+    struct calls *calls = (struct calls *)self;
+    unsigned pid;
+    PyObject *cases, *values[MOST_CASES + 1];
+    int is_select, has_default;
+    unsigned long long word, deadline = 0;
+    chanhub_case packed[MOST_CASES + 1];
+    if (!PyArg_ParseTuple(arguments, "IO!ppK|K", &pid, &PyTuple_Type, &cases, &is_select, &has_default, &word, &deadline)) return NULL;
+    struct asked asked = { .cases = packed, .values = values, .is_select = is_select, .has_default = has_default, .word = word,
+                           .has_deadline = PyTuple_Size(arguments) > 5, .deadline = deadline };
+    /* One more than the most is refused as any more are. */
+    for (; asked.count < (size_t)PyTuple_Size(cases) && asked.count <= MOST_CASES; asked.count++) {
+        PyObject *port;
+        PyObject *one = PyTuple_GetItem(cases, (Py_ssize_t)asked.count);
+        values[asked.count] = NULL;
+        if (!PyTuple_Check(one)) return PyErr_Format(PyExc_TypeError, "a case must be a Send or a Recv, not %R", one);
+        if (!PyArg_ParseTuple(one, "O|O", &port, &values[asked.count]) ||
+            !reads_case(calls, port, values[asked.count], &packed[asked.count])) return NULL;
+    }
+    return opens(calls, pid, &asked) ? Py_BuildValue("") : NULL;
+}
+
+static PyObject *ask_other(PyObject *self, PyObject *arguments) {
+    struct asked asked = { 0 };
+    unsigned pid;
+    const char *name;
+    if (!PyArg_ParseTuple(arguments, "IsI", &pid, &name, &asked.number)) return NULL;
+    asked.other = strcmp(name, "make") == 0 ? used.make : strcmp(name, "close") == 0 ? used.close : used.cancel;
+    return opens((struct calls *)self, pid, &asked) ? Py_BuildValue("") : NULL;
+}
+
+static PyObject *told_of(PyObject *self, PyObject *pid) {
+    const struct call *call = call_of((struct calls *)self, (unsigned)PyLong_AsUnsignedLong(pid));
+    const chanhub_told *told = &call->told;
+    if (!call->is_open) return Py_BuildValue("");
+    return Py_BuildValue("iiiK", told->what, told->fault, told->index,
+                         (unsigned long long)(told->what == CHANHUB_MADE ? told->port : told->value.number));
+}
+
+static PyObject *wait_for(PyObject *self, PyObject *arguments) {
+    struct calls *calls = (struct calls *)self;
+    unsigned pid;
+    unsigned long long nanoseconds;
+    if (!PyArg_ParseTuple(arguments, "IK", &pid, &nanoseconds)) return NULL;
+    struct call *call = call_of(calls, pid);
+    if (call->is_inside) return PyBool_FromLong(false);
+    if (call->is_open && call->told.what == CHANHUB_WAITING) {
+        chanhub_told told;
+        call->is_inside = true;
+        Py_BEGIN_ALLOW_THREADS
+        told = used.resume(calls->hub, pid, nanoseconds);
+        Py_END_ALLOW_THREADS
+        call->told = told;
+        call->is_inside = false;
+    }
+    return PyBool_FromLong(true);
+}
+
+/* ---- The type. ---- */
+
+static PyObject *new_calls(PyTypeObject *type, PyObject *arguments, PyObject *Py_UNUSED(named)) {
+    unsigned long long hub;
+    PyObject *things;
+    if (!PyArg_ParseTuple(arguments, "KO", &hub, &things)) return NULL;
+    struct calls *calls = (struct calls *)((allocfunc)PyType_GetSlot(type, Py_tp_alloc))(type, 0);
+    if (!calls) return NULL;
+    calls->hub = (chanhub *)(uintptr_t)hub;
+    if (things != Py_None) {
+        Py_INCREF(things);
+        calls->things = things;
+    }
+    return (PyObject *)calls;
+}
+
+static int traverse(PyObject *self, visitproc visit, void *arg) {
+    Py_VISIT(Py_TYPE(self));
+    Py_VISIT(((struct calls *)self)->things);
+    return 0;
+}
+
+static int clear(PyObject *self) {
+    Py_CLEAR(((struct calls *)self)->things);
+    return 0;
+}
+
+static void deallocate(PyObject *self) {
+    PyTypeObject *type = Py_TYPE(self);
+    PyObject_GC_UnTrack(self);
+    clear(self);
+    ((freefunc)PyType_GetSlot(type, Py_tp_free))(self);
+    Py_DECREF(type);
+}
+
+static PyMethodDef methods[] = { { "ask", ask, METH_VARARGS, NULL },
+                                 { "ask_other", ask_other, METH_VARARGS, NULL },
+                                 { "told", told_of, METH_O, NULL },
+                                 { "wait", wait_for, METH_VARARGS, NULL },
+                                 { NULL, NULL, 0, NULL } };
+static PyMemberDef members[] = { { "keeps_open", T_BOOL, offsetof(struct calls, keeps_open), 0, NULL }, { NULL, 0, 0, 0, NULL } };
+static PyType_Slot slots[] = { { Py_tp_new, new_calls },        { Py_tp_traverse, traverse },         { Py_tp_clear, clear },
+                               { Py_tp_dealloc, deallocate },   { Py_tp_methods, methods },           { Py_tp_members, members },
+                               { Py_mp_subscript, subscript },  { Py_mp_ass_subscript, delete },      { 0, NULL } };
+static PyType_Spec spec = { .name = "chanhub_calls.Calls", .basicsize = sizeof(struct calls),
+                            .flags = Py_TPFLAGS_DEFAULT | Py_TPFLAGS_HAVE_GC, .slots = slots };
+
+/* use(addresses, pack, fired, fault): what all calls use, with the addresses in the order of the struct. */
+static PyObject *use(PyObject *Py_UNUSED(self), PyObject *arguments) {
+    unsigned long long at[7];
+    if (!PyArg_ParseTuple(arguments, "(KKKKKKK)OOO", at, at + 1, at + 2, at + 3, at + 4, at + 5, at + 6, &used.pack, &used.fired,
+                          &used.fault)) return NULL;
+    Py_INCREF(used.pack), Py_INCREF(used.fired), Py_INCREF(used.fault);
+    void *from[7];
+    for (int i = 0; i < 7; i++) from[i] = (void *)(uintptr_t)at[i];
+    memcpy(&used, from, sizeof from);
+    return Py_BuildValue("");
+}
+
+static PyMethodDef functions[] = { { "use", use, METH_VARARGS, NULL }, { NULL, NULL, 0, NULL } };
+static struct PyModuleDef module = { PyModuleDef_HEAD_INIT, .m_name = "chanhub_calls", .m_size = -1, .m_methods = functions };
 
 PyMODINIT_FUNC PyInit_chanhub_calls(void) {
     PyObject *made = PyModule_Create(&module), *type = PyType_FromSpec(&spec);
-    return made && type && PyModule_AddObject(made, "Quick", type) == 0 ? made : NULL;
+    return made && type && PyModule_AddObject(made, "Calls", type) == 0 ? made : NULL;
 }

@@ -358,7 +358,7 @@ fi
 if [ -e out/chanhub_calls.abi3.so ]; then
     ways='extension ctypes'
     check 'the extension of the Python module' env PYTHONPATH=python python3 -c \
-        'import chanhub, sys; sys.exit((chanhub._Quick is None) != (sys.version_info < (3, 10)))'
+        'import chanhub, sys; sys.exit((chanhub._CallsType is chanhub._Calls) != (sys.version_info < (3, 10)))'
 else
     ways=ctypes
     skip 'the extension of the Python module' "python3 has no headers"

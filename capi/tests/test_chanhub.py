@@ -16,7 +16,7 @@ import time
 import unittest
 
 import chanhub
-from chanhub import Cancelled, Closed, Counts, Drained, Fault, Fired, Hub, Recv, Send, Stalled, Table
+from chanhub import Cancelled, Closed, Counts, Drained, Fault, Fired, Hub, HubEnded, Recv, Send, Stalled, Table
 from rigs import Worker
 
 HERE = pathlib.Path(__file__).resolve().parent
@@ -163,9 +163,10 @@ class Calls(unittest.TestCase):
             self.assertEqual([type(value) for value in got], [int, int, int, bytes, bytes, bytes])
 
     def test_exceptions_say_what_happened(self):
-        said = [str(ended(3)) for ended in (Closed, Drained, Stalled, Cancelled)]
+        said = [str(ended(3)) for ended in (Closed, Drained, Stalled, Cancelled, HubEnded)]
         self.assertEqual(said, ['send on a closed port', 'receive from a port that is closed and empty',
-                                'every process was waiting, so no call could ever end', 'another process cancelled the call'])
+                                'every process was waiting, so no call could ever end', 'another process cancelled the call',
+                                'the hub has ended'])
         self.assertEqual(str(Fault(5)), 'fault 5: no such port')
         again = pickle.loads(pickle.dumps([Closed(3), Fault(5)]))
         self.assertEqual((again[0].index, again[1].number), (3, 5))
@@ -234,10 +235,11 @@ class Calls(unittest.TestCase):
             port = seat.make(2)
             things = [{'a': 1}, 'text']
             for thing in things:
-                seat.send(port, table.put(thing))
+                seat.send(port, table.put(seat, thing))
             self.assertEqual([table.take(seat.recv(port)) for _ in things], things)
             with self.assertRaises(KeyError):
-                table.take(0)
+                table.take(100)
+            self.assertEqual([table.put(hub.seat(pid), 'more') for pid in (0, 5, 5)], [300, 105, 205])
 
     def test_exit_twice_is_nothing(self):
         with Hub(procs=2) as hub, hub.seat(0) as seat:
@@ -667,7 +669,7 @@ class Leaving(unittest.TestCase):
             for hub in self.hubs(4, editions=(1, 2)):
                 a, b, c = (hub.seat(0).make(cap) for cap in (0, 2, 0))
                 self.left_by_an_exception(hub, (work, a, b), (work, b, c), (work, c, a))
-                self.assertEqual({type(error) for error in self.raised}, {Stalled})
+                self.assertEqual({type(error) for error in self.raised}, {HubEnded})
 
     def test_workers_that_are_busy_end(self):
         for work in (stage, bare_stage):
@@ -676,7 +678,7 @@ class Leaving(unittest.TestCase):
                     a, b = hub.seat(0).make(cap), hub.seat(0).make(cap)
                     self.left_by_an_exception(hub, (work, a, b), (work, b, a), (lambda seat: seat.send(a, 1),),
                                               (lambda seat: seat.send(b, 2),), step=1)
-                    self.assertEqual({type(error) for error in self.raised} - {Stalled, ValueError}, set())
+                    self.assertEqual({type(error) for error in self.raised} - {HubEnded}, set())
 
     def test_workers_that_compute_end(self):
         """One of them makes its next call after the hub was left."""
@@ -689,7 +691,23 @@ class Leaving(unittest.TestCase):
             self.has_left.clear()
             port = hub.seat(0).make(0)
             self.left_by_an_exception(hub, (compute, port), (bare_stage, port, port))
-            self.assertEqual(sorted(type(error).__name__ for error in self.raised), ['Stalled', 'ValueError'])
+            self.assertEqual([type(error) for error in self.raised], [HubEnded, HubEnded])
+
+    def test_a_deadlock_that_was_told_before_the_end_is_one(self):
+        """The second thread picks up its answer when the hub has ended; the third began to wait later."""
+        with Hub(procs=3) as hub:
+            seats = [hub.seat(pid) for pid in range(3)]
+            port = seats[0].make(0)
+            for seat in seats[1:]:
+                hub._calls.ask(seat.pid, (Recv(port),), False, False, 0)
+            with self.assertRaises(Stalled):
+                seats[0].recv(port)
+            with self.assertRaises(Stalled):
+                seats[2].resume()
+            hub._calls.ask(2, (Recv(port),), False, False, 0)
+        for seat, ended in zip(seats[1:], (Stalled, HubEnded)):
+            with self.assertRaises(ended):
+                seat.resume()
 
     def test_a_hub_that_is_left_is_joined(self):
         with self.assertRaises(ZeroDivisionError):
@@ -722,14 +740,17 @@ class Leaving(unittest.TestCase):
 
 AT_EXIT = """
 import sys, threading, time
-from chanhub import Hub
+from chanhub import Fault, Hub
 kept = []
 options = dict(keep=int(sys.argv[3]), chapters={'function': lambda text: None}.get(sys.argv[4], sys.argv[4])) if sys.argv[3:] else {}
 def waits(seat):
     seat.recv(1)
 def busy(seat):
-    while True:
-        seat.send(2, 5), seat.recv(2)
+    try:
+        while True:
+            seat.send(2, 5), seat.recv(2)
+    except Fault:
+        time.sleep(100)  # main is slow, and the journal is full
 def opened():
     hub = Hub(procs=4, **options)
     hub.seat(0).make(0), hub.seat(0).make(10)
@@ -869,6 +890,29 @@ class Ends(unittest.TestCase):
                 self.assertEqual(history(chapters)[1][0], '0 make 1')
 
 
+NOWHERE = -1
+
+
+class Signalled(Exception):
+    """What a signal handler raises."""
+
+
+def signalled(call, place):
+    """Makes a call, and raises an exception at this place of the module, from 0, if it comes there: the beginning of a function, or
+    behind a call of one in C. There the interpreter handles signals."""
+    def profile(frame, event, _):
+        nonlocal place
+        if event in ('call', 'c_return') and frame.f_code.co_filename == chanhub.__file__ and frame.f_code is not chanhub._free.__code__:
+            place -= 1
+            if place == -1:
+                raise Signalled
+    sys.setprofile(profile)
+    try:
+        return call()
+    finally:
+        sys.setprofile(None)
+
+
 class Interrupts(unittest.TestCase):
     def setUp(self):
         self.inside = False
@@ -879,6 +923,52 @@ class Interrupts(unittest.TestCase):
         if self.inside:
             self.inside = False
             raise KeyboardInterrupt
+
+    def each_call(self, objects, place):
+        """Calls of each kind, each with a signal at this place, and another there while it is resumed. Returns how many came, what the calls
+        came to, and the journal."""
+        with Hub(2, objects=objects, timeouts=True) as hub:
+            seat, signals, came = hub.seat(0), 0, []
+
+            def own_things():
+                return [number for number in hub._things or () if number % 100 == 0]
+
+            def answer():
+                with hub.seat(1) as other:
+                    until(lambda: b'\n0 recv 2\n' in hub.journal())
+                    other.send(2, 7)
+            thread = threading.Thread(target=answer)
+            thread.start()
+            for call in (lambda: seat.make(1), lambda: seat.make(0), lambda: seat.send(1, 8), lambda: seat.select([Recv(0), Recv(1)]),
+                         lambda: seat.select([Recv(1)], default=True), lambda: seat.send(1, b'9', timeout=LONG),
+                         lambda: seat.send(1, 10, timeout=0), lambda: seat.recv(1, timeout=LONG), lambda: seat.recv(2), thread.join,
+                         lambda: seat.recv(1), lambda: seat.select([Send(0, 11), Send(1, 12), Send(1, 13)]), lambda: seat.recv(1),
+                         lambda: seat.cancel(1), lambda: seat.close(1), lambda: seat.recv(1), lambda: seat.send(1, 14)):
+                before = own_things()
+                for each in (place, place, NOWHERE):
+                    try:
+                        came.append(repr(signalled(seat.resume if seat.waits else call, each)))
+                        break
+                    except Signalled:
+                        signals += 1
+                        self.assertTrue(seat.waits or own_things() == before)
+                    except (chanhub.Ended, Fault) as error:
+                        came.append(repr(error))
+                        break
+            self.assertEqual(hub._things, {} if objects else None)
+            return signals, came, hub.journal()
+
+    def test_no_call_is_lost_wherever_a_signal_comes(self):
+        for objects in (False, True):
+            _, *without = self.each_call(objects, NOWHERE)
+            self.assertEqual(without[0], ['1', '2', 'None', 'Fired(index=1, value=8)', 'None', 'None', 'TimedOut(0)', "b'9'", '7', 'None',
+                                          'Stalled(0)', 'Fired(index=1, value=None)', '12', repr(Fault(12)), 'None', 'Drained(0)', 'Closed(0)'])
+            place, signals = 0, 1
+            while signals:
+                signals, *same = self.each_call(objects, place)
+                self.assertEqual(same, without, f'a signal at place {place}')
+                place += 1
+            self.assertGreater(place, 3)
 
     def interrupted(self, call, has_begun=lambda: True):
         """How long it took from Ctrl-C, which comes once the call has begun, to the exception."""
@@ -968,14 +1058,14 @@ class Interrupts(unittest.TestCase):
         self.assertTrue(hub.seat(0).waits)
 
     def test_a_hub_that_is_left_by_an_interrupt_ends_its_threads(self):
-        stalled = []
+        ended = []
 
         def wait(seat):
             try:
                 with seat:
                     seat.recv(1)
-            except Stalled:
-                stalled.append(seat.pid)
+            except HubEnded:
+                ended.append(seat.pid)
         hub = Hub(procs=5)
         seat = hub.seat(0)
         seat.make(0)
@@ -988,8 +1078,8 @@ class Interrupts(unittest.TestCase):
                 seat.recv(1)
         self.interrupted(waits, lambda: hub.journal().count(b' recv 1\n') == 4)
         self.assertTrue(joined(workers[:3]))
-        self.assertEqual(sorted(stalled), [1, 2, 3])
-        with self.assertRaises(Stalled):
+        self.assertEqual(sorted(ended), [1, 2, 3])
+        with self.assertRaises(HubEnded):
             seat.resume()
         seat.exit()
 

@@ -252,8 +252,8 @@ def test_first(open_hub):
             threads.reverse()
         for thread in threads:
             thread.start()
-        if os.environ['ORDER'] != 'race':
-            threads[0].join()
+            if os.environ['ORDER'] != 'race':
+                thread.join()
         for thread in threads:
             thread.join()
         first = hub.look(port) and zero.recv(port)
@@ -283,7 +283,7 @@ class Plugin(unittest.TestCase):
     def pytest(self, folder, order, *words):
         here = Path(__file__).resolve().parent.parent / 'python'
         path = os.pathsep.join([str(here), *filter(None, [os.environ.get('PYTHONPATH')])])
-        # The one that sends second is delayed by the order in which the threads are joined.
+        # One thread sends after the other, but in a race.
         return subprocess.run([sys.executable, '-m', 'pytest', '-p', 'chanhub_pytest', '-p', 'no:cacheprovider', *words], cwd=folder,
                               env={**os.environ, 'PYTHONPATH': path, 'ORDER': order}, stdout=subprocess.PIPE, text=True, timeout=60)
 

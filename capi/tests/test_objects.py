@@ -66,7 +66,7 @@ class Objects(unittest.TestCase):
             self.seat.send(port, thing)
         for thing in things:
             self.assertIs(self.seat.recv(port), thing)
-        lines = [f'0 make {len(things)}', *(f'0 send 1 {number}' for number in range(len(things))), *['0 recv 1'] * len(things)]
+        lines = [f'0 make {len(things)}', *(f'0 send 1 {100 * k}' for k in range(1, len(things) + 1)), *['0 recv 1'] * len(things)]
         self.assertEqual(self.hub.journal().decode().splitlines()[2:], lines)
 
     def test_other_hubs_take_numbers_and_bytes_only(self):
@@ -157,7 +157,7 @@ class Objects(unittest.TestCase):
     def test_a_cancelled_send_is_not_kept(self):
         port = self.seat.make(0)
         joined = in_thread(port.put, Thing())
-        until_it_stands(self.hub, '0 send 1 0')
+        until_it_stands(self.hub, '0 send 1 100')
         self.other.cancel(0)
         self.assertIsInstance(joined(), Cancelled)
         self.assertEqual(self.hub._things, {})
@@ -304,7 +304,7 @@ class Ports(unittest.TestCase):
         other.put('a')
         port.get()
         other.close()
-        self.assertEqual(self.hub.journal().decode().splitlines()[2:], ['0 make 2', '1 send 1 0', '0 recv 1', '1 close 1'])
+        self.assertEqual(self.hub.journal().decode().splitlines()[2:], ['0 make 2', '1 send 1 101', '0 recv 1', '1 close 1'])
 
 
 class Awaited(unittest.TestCase):
@@ -393,7 +393,7 @@ class Awaited(unittest.TestCase):
         async def main():
             putting = asyncio.create_task(port.aput('a'))
             await asyncio.sleep(0)
-            while b'0 send 1 0' not in self.hub.journal():
+            while b'0 send 1 100' not in self.hub.journal():
                 await asyncio.sleep(0.001)
             putting.cancel()
             with self.assertRaises(asyncio.CancelledError):

@@ -9,7 +9,8 @@ import threading
 import time
 import unittest
 
-from chanhub import Cancelled, Closed, Drained, Fault, Fired, Hub, Recv, Send, Stalled, TimedOut
+import chanhub
+from chanhub import Cancelled, Closed, Drained, Fault, Fired, Hub, HubEnded, Recv, Send, Stalled, TimedOut
 
 sys.path.append(str(pathlib.Path(__file__).resolve().parent.parent.parent / 'tools'))
 import model  # noqa: E402
@@ -190,7 +191,7 @@ class Timeouts(unittest.TestCase):
                 port = hub.seat(0).make(0)
                 waits = in_thread(lambda: hub.seat(1).recv(port, timeout=10 * LONG))
                 journal_with(hub, f'1 recv {port}')
-            self.assertRaises(TimedOut, waits)
+            self.assertRaises(HubEnded, waits)
 
     def test_an_interrupted_call_is_resumed(self):
         before = signal.signal(signal.SIGINT, signal.default_int_handler)  # it may be ignored
@@ -207,7 +208,7 @@ class Timeouts(unittest.TestCase):
             self.assertRaises(KeyboardInterrupt, seat.recv, port, timeout=LONG)
             interrupted()
             self.assertTrue(seat.waits)
-            hub._expire(0)
+            chanhub._LIBRARY.chanhub_expire(hub._handle, 0)
             self.assertRaises(TimedOut, seat.resume)
             self.assertFalse(seat.waits)
             self.assertRaises(Stalled, seat.recv, port)

@@ -483,6 +483,7 @@ class _To:
     arguments: Tuple[Any, int]  # the last ones of chanhub_open_endless
     fallen: Optional[SimpleQueue[str]] = None  # the chapters that wait to be given, where they have to wait
     error: Optional[OSError] = None
+    giver: Optional[int] = None  # the thread in which a function runs that gets one
 
     def add(self, text: Optional[bytes]) -> None:
         """Adds a chapter, as the library does."""
@@ -533,7 +534,6 @@ class _ToFunction(_To):
         self.fallen = SimpleQueue()
         self._function = function
         self._giving = threading.RLock()  # held while the function runs
-        self._runs = False
         self._taken: List[str] = []  # the chapter that it gets, until it has returned
         self._has_raised = False
         self._string = _STRING(('PyUnicode_FromKindAndData', ctypes.pythonapi))
@@ -568,9 +568,9 @@ class _ToFunction(_To):
     def _give_one(self) -> bool:
         """Gives the oldest chapter that is left. Returns whether it did: it does not if there is none, nor within the function, where
         a signal handler may call it. If the function is interrupted, the chapter stays taken. Holds the lock."""
-        if self._runs:
+        if self.giver is not None:
             return False
-        self._runs = True
+        self.giver = get_ident()
         try:
             if not self._taken:
                 self._taken.extend(starmap(self.fallen.get_nowait, ((),)))
@@ -580,7 +580,7 @@ class _ToFunction(_To):
         except Empty:
             return False
         finally:
-            self._runs = False
+            self.giver = None
 
     def _call(self, text: Optional[bytes]) -> None:
         """Calls the function. Reports its first exception, but does not keep it, since its frames may refer to the hub."""
@@ -727,7 +727,7 @@ class Hub:
     - A function. It gets the text, as `journal` returns it, or None if there was no memory for it. It runs in a thread that calls on
       the hub, as a rule the one whose call made the chapter fall out, before that call returns or waits. Other calls go on meanwhile,
       until another chapter has fallen out: then they end once the function has returned. The function may look at the hub and read
-      its journals. It must not call through a seat, cut the hub or end it. If it raises an Exception, no
+      its journals. It must not call through a seat or end the hub, and `cut` raises ValueError there. If it raises an Exception, no
       step fails for that; the first one is reported by sys.unraisablehook. If Ctrl-C interrupts it, the call in whose thread it ran
       raises KeyboardInterrupt, and `seat.resume()` returns what the call would have. The function gets that chapter again, before
       the next one.
@@ -895,10 +895,13 @@ class Hub:
         """Ends the present chapter of a hub with `keep`, as if it were full: it becomes the chapter before, and the one that was before
         falls out. Waiting calls go on waiting. This needs no seat.
 
-        Raises MemoryError if memory runs out, and ValueError if the hub has no `keep` or has ended. Then nothing has changed.
+        Raises MemoryError if memory runs out, and ValueError if the hub has no `keep` or has ended, or where the function for chapters
+        runs in this thread: each cut would call it again. Then nothing has changed.
         """
         if not self._is_endless:
             raise ValueError('only a hub with `keep` has chapters')
+        if self._chapters and self._chapters.giver == get_ident():
+            raise ValueError('the function for chapters must not cut the hub')
         with self._settling:
             was_cut = _LIBRARY.chanhub_cut(self.handle)
         self._give_fallen()

@@ -418,6 +418,18 @@ class Chapters(unittest.TestCase):
         self.assertEqual(len(looks), 5)
         self.assertEqual(self.reported, [])
 
+    def test_the_function_must_not_cut_the_hub(self):
+        refused = []
+
+        def cut(text):
+            with self.assertRaisesRegex(ValueError, 'the function for chapters must not cut the hub'):
+                hub.cut()
+            refused.append(text)
+        with Hub(procs=1, keep=2, chapters=cut) as hub:
+            pass_numbers(hub, 3)
+            hub.cut()
+        self.assertEqual((history(refused)[1], self.reported), ([*lines_of(3), '0 exit'], []))
+
     def test_an_ended_hub_that_its_function_refers_to_is_freed(self):
         def opened():
             hub = Hub(procs=1, keep=2, chapters=lambda text: hub.look(1))
@@ -1124,14 +1136,20 @@ class Interrupts(unittest.TestCase):
         history(chapters)
 
     def test_a_signal_handler_cuts_the_hub(self):
-        """Also while the function runs."""
+        """Except while the function runs."""
         chapters, cuts = [], []
 
         def append(text):
             time.sleep(0.001)
             chapters.append(text)
         with Hub(procs=1, keep=20, chapters=append) as hub:
-            signal.signal(signal.SIGINT, lambda *_: cuts.append(hub.cut()))
+
+            def cut(*_):
+                try:
+                    cuts.append(hub.cut())
+                except ValueError as error:
+                    self.assertEqual(str(error), 'the function for chapters must not cut the hub')
+            signal.signal(signal.SIGINT, cut)
 
             def interrupt():
                 """Signals that come while a handler is still to run are one."""

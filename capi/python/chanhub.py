@@ -279,6 +279,7 @@ def _library() -> ctypes.CDLL:
             ('exit', _Told, [hub, number]),
             ('cancel', _Told, [hub, number, number]),
             ('cut', ctypes.c_bool, [hub]),
+            ('steps_left', ctypes.c_uint64, [hub]),
             ('look', _Counts, [hub, number]),
             ('journal', hub, [hub, size]),
             ('before', hub, [hub, size]),
@@ -907,6 +908,11 @@ class Hub:
         self._give_fallen()
         if not was_cut:
             raise MemoryError
+
+    def steps_left(self) -> Optional[int]:
+        """Returns how many more steps other than exits the hub makes, by all its processes, before it raises Fault 10. Returns None for a
+        hub with `keep`. This needs no seat."""
+        return None if self._is_endless else int(_LIBRARY.chanhub_steps_left(self._owned()))
 
     @property
     def chapters_error(self) -> Optional[OSError]:

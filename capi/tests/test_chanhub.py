@@ -216,6 +216,13 @@ class Calls(unittest.TestCase):
                     time.sleep(0.001)
             self.assertEqual(len(ended), 1)
 
+    def test_steps_that_are_left(self):
+        with Hub(procs=1, limit=5) as hub, hub.seat(0) as seat:
+            self.assertEqual(hub.steps_left(), 5)
+            seat.make(0)
+            self.assertEqual(hub.steps_left(), 4)
+        self.assertEqual((Hub(1).steps_left(), Hub(1, keep=5).steps_left()), (1_000_000, None))
+
     def test_memory_goes_with_the_last_user(self):
         hub = Hub(procs=1)
         freed = hub._free

@@ -1,6 +1,8 @@
 """Tests of hubs that follow a journal, and of the plugin for pytest, which is left out where there is no pytest."""
+import asyncio
 import importlib.util
 import os
+import random
 import signal
 import subprocess
 import sys
@@ -8,6 +10,7 @@ import tempfile
 import threading
 import time
 import unittest
+from functools import partial
 from pathlib import Path
 
 from chanhub import Closed, Diverged, Drained, Fault, Hub, Recv, Send, Stalled, TimedOut
@@ -153,63 +156,94 @@ class Following(unittest.TestCase):
             self.assertRaises(Stalled, one.recv, port)
             self.assertRaises(Stalled, stalls)
 
-    def objects(self, opens):
-        """Two threads that send objects, and a third process that receives them."""
-        with opens() as hub:
-            zero, one, two = map(hub.seat, range(3))
-            port = zero.make(3)
+    def repeats(self, run, procs, **options):
+        """Asserts of 200 runs that each, once it is recorded, is the same when its journal is followed. A run exits all its processes. It
+        gets the hub, and whether that follows. Returns the journals."""
+        journals = set()
+        for _ in range(200):
+            with Hub(procs, objects=True, **options) as hub:
+                told = run(hub, False)
+            journal = hub.journal()
+            with Hub.follow(journal, objects=True) as hub:
+                self.assertEqual(run(hub, True), told)
+            self.assertEqual(hub.journal(), journal)
+            journals.add(journal)
+        self.assertGreater(len(journals), 1)  # they have several schedules
+        return journals
 
-            def second():
-                one.select([Send(port, 'unsent'), Recv(0)], default=True)
-                one.send(port, 'second')
-            ends = self.in_thread(second)
-            zero.send(port, 'first')
-            got = [two.recv(port) for _ in range(3)]
-            ends()
-            for seat in (zero, one, two):
-                seat.exit()
-            return got, hub.journal()
+    def told_of(self, hub, work, procs):
+        """What this returns in a thread for each process from 1 on."""
+        def works(seat):
+            with seat:
+                return work(seat)
+        threads = [self.in_thread(partial(works, hub.seat(pid))) for pid in range(1, procs)]
+        return [ends() for ends in threads]
 
-    def test_objects(self):
-        for _ in range(20):
-            got, journal = self.objects(lambda: Hub(3, objects=True))
-            self.assertEqual(self.objects(lambda: Hub.follow(journal, objects=True)), (got, journal))
+    def test_four_senders_of_objects(self):
+        def run(hub, _):
+            port = hub.seat(0).make(1)
 
-    def timed_objects(self, opens, timeout):
-        """A thread that sends objects, of which some may not be received in time, and one that receives once more than objects are sent."""
-        with opens() as hub:
-            zero, one = hub.seat(0), hub.seat(1)
-            port = zero.make(1)
-            told = []
+            def receive():
+                with hub.seat(0) as seat:
+                    return [seat.recv(port) for _ in range(20)]
+            got = self.in_thread(receive)
+            self.told_of(hub, lambda seat: [seat.send(port, [seat.pid, k]) for k in range(5)], 5)
+            return got()
+        self.repeats(run, 5)
 
-            def receives():
-                with one:
-                    for count in range(21):
-                        try:
-                            told.append(one.recv(port, timeout if count < 20 else 20 * timeout))
-                        except TimedOut:
-                            told.append(None)
-            ends = self.in_thread(receives)
-            for number in range(20):
+    def test_selects_with_random_words(self):
+        def run(hub, _):
+            with hub.seat(0) as boss:
+                ports = [boss.make(cap) for cap in (0, 1, 2)]
+
+            def work(seat):
+                told = []
+                for k in range(8):
+                    cases = [Send(port, [seat.pid, k]) for port in ports[k % 2:]] + [Recv(port) for port in ports[:2 + k % 2]]
+                    try:
+                        told.append(seat.select(cases, default=k % 4 == 0, word=random.getrandbits(64)))
+                    except Stalled:
+                        told.append('stalled')
+                return told
+            return self.told_of(hub, work, 5)
+        self.repeats(run, 5)
+
+    def test_timeouts_of_objects(self):
+        def run(hub, follows):
+            def timed(call, *arguments):
                 try:
-                    zero.send(port, ['object', number], timeout)
+                    return call(*arguments, timeout=1000 if follows else 0.0001)
                 except TimedOut:
-                    told.append(number)
-            ends()
-            zero.exit()
-            return told, hub.journal()
+                    return 'timed out'
 
-    def test_objects_and_timeouts(self):
-        passed = 0
-        for _ in range(20):
-            told, journal = self.timed_objects(lambda: Hub(2, objects=True, timeouts=True), 0.0001)
-            again, same = self.timed_objects(lambda: Hub.follow(journal, objects=True), 1000)
-            # Each thread has its order, and both have one list.
-            self.assertEqual(sorted(map(repr, again)), sorted(map(repr, told)))
-            self.assertEqual(same, journal)
-            passed += journal.count(b'\n2 cancel ')
-        # The last receive of each run waits until its deadline, unless the thread is held up for as long.
-        self.assertGreater(passed, 0)
+            def work(seat):
+                return [timed(seat.recv, port) if (seat.pid + k // 4) % 2 else timed(seat.send, port, [seat.pid, k]) for k in range(8)]
+            with hub.seat(0) as boss:
+                port = boss.make(1)
+            return self.told_of(hub, work, 5)
+        journals = self.repeats(run, 5, timeouts=True)
+        self.assertTrue(any(b'\n5 cancel ' in journal for journal in journals))
+
+    def test_awaited_objects(self):
+        def run(hub, _):
+            seats = [hub.seat(pid) for pid in range(4)]
+            port = seats[0].make(1)
+
+            async def send(seat):
+                for k in range(4):
+                    await seat.port(port).aput([seat.pid, k])
+
+            async def receive():
+                return [await port.aget() for _ in range(12)]
+
+            async def main():
+                got, *_ = await asyncio.wait_for(asyncio.gather(receive(), *map(send, seats[1:])), 20)
+                return got
+            got = asyncio.run(main())
+            for seat in seats:
+                seat.exit()
+            return got
+        self.repeats(run, 4)
 
     def test_end_of_the_block(self):
         with Hub.follow(JOURNAL) as hub:

@@ -12,6 +12,7 @@ import time
 import unittest
 from functools import partial
 from pathlib import Path
+from xml.etree import ElementTree
 
 from chanhub import Closed, Diverged, Drained, Fault, Hub, Recv, Send, Stalled, TimedOut
 
@@ -312,6 +313,19 @@ def test_timed(open_hub):
 '''
 
 
+TEST_NAMES = '''
+import pytest
+
+@pytest.mark.parametrize('name', ['a' * 300, 'a/b', 'a?b'])
+def test_names(open_hub, name):
+    open_hub(procs=1).seat(0).make(len(name) + ord(name[1]))
+    assert False
+
+def test_after():
+    pass
+'''
+
+
 @unittest.skipUnless(importlib.util.find_spec('pytest'), 'no pytest')
 class Plugin(unittest.TestCase):
     def pytest(self, folder, order, *words):
@@ -329,7 +343,7 @@ class Plugin(unittest.TestCase):
             ran = self.pytest(folder, '1000', '--chanhub-follow')
             self.assertEqual(ran.returncode, 1, ran.stdout)
             self.assertIn('it timed out', ran.stdout)
-            self.assertIn('followed chanhub-journals/test_it.py_test_timed.0.journal', ran.stdout)
+            self.assertRegex(ran.stdout, 'followed chanhub-journals/test_it.py_test_timed.[0-9a-f]{12}.0.journal\n')
 
     def test_journal_of_a_failing_test(self):
         with tempfile.TemporaryDirectory() as folder:
@@ -339,15 +353,31 @@ class Plugin(unittest.TestCase):
             self.assertFalse(Path(folder, 'chanhub-journals').exists())
             ran = self.pytest(folder, 'one')
             self.assertEqual(ran.returncode, 1, ran.stdout)
-            kept = Path(folder, 'chanhub-journals', 'test_it.py_test_first.0.journal')
-            self.assertIn('wrote chanhub-journals/test_it.py_test_first.0.journal', ran.stdout)
-            self.assertEqual([it.name for it in kept.parent.iterdir()], [kept.name])
+            kept, = Path(folder, 'chanhub-journals').iterdir()
+            self.assertIn(f'wrote chanhub-journals/{kept.name}; ', ran.stdout)
             # The threads race, and the one sends first again.
             for _ in range(3):
                 ran = self.pytest(folder, 'race', '--chanhub-follow')
                 self.assertEqual(ran.returncode, 1, ran.stdout)
                 self.assertIn("assert 'one' == 'zero'", ran.stdout)
-                self.assertIn('followed chanhub-journals/test_it.py_test_first.0.journal', ran.stdout)
+                self.assertIn(f'followed chanhub-journals/{kept.name}\n', ran.stdout)
+
+    def test_tests_have_files_of_their_own(self):
+        with tempfile.TemporaryDirectory() as folder:
+            Path(folder, 'test_it.py').write_text(TEST_NAMES)
+            ran = self.pytest(folder, '', '--junitxml=junit.xml')
+            self.assertIn('3 failed, 1 passed in', ran.stdout)
+            named = [it.attrib['value'] for it in ElementTree.parse(Path(folder, 'junit.xml')).iter('property')]
+            caps = [Path(folder, name).read_text().splitlines()[2] for name in named]
+            self.assertEqual(caps, [f'0 make {cap}' for cap in (300 + ord('a'), 3 + ord('/'), 3 + ord('?'))])
+
+    def test_journal_that_cannot_be_written(self):
+        with tempfile.TemporaryDirectory() as folder:
+            Path(folder, 'test_it.py').write_text(TEST_NAMES)
+            for words in ((), ('-W', 'error')):
+                ran = self.pytest(folder, '', '--chanhub-journals=/dev/null/folder', *words)
+                self.assertIn('3 failed, 1 passed, 3 warnings in', ran.stdout)
+                self.assertIn('PytestWarning: could not write /dev/null/folder/test_it.py_test_names_a_b_.', ran.stdout)
 
 
 if __name__ == '__main__':

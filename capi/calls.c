@@ -10,9 +10,10 @@
 extern inline chanhub_value chanhub_number(uint64_t number);
 extern inline chanhub_value chanhub_bytes(const void *bytes, size_t length);
 
-/* Whether a call of this process, or its exit, can begin: the fault if not, and then it leaves the lock. Holds the lock. */
-uint8_t look_closer(chanhub *h, unsigned pid, bool exits) {
-    uint8_t why = h->open & only(pid) ? CHANHUB_BUSY : h->end ? CHANHUB_DIVERGED : refusal_by_clock(h, pid, exits);
+/* Whether a call of this process can begin: the fault if not, and then it leaves the lock. Holds the lock. */
+uint8_t look_closer(chanhub *h, unsigned pid, int step) {
+    uint8_t why = h->open & only(pid) ? CHANHUB_BUSY : h->state == FOLLOWS ? await_closes(h, pid, step) : 0;
+    if (!why) why = h->state == ENDED ? CHANHUB_DIVERGED : refusal_by_clock(h, pid, step == EXIT);
     if (why) leave_lock(h);
     return why;
 }
@@ -39,43 +40,48 @@ chanhub_told finish_by_waking(chanhub *h, uint8_t pid, const struct told *t, uin
 
 /* What each of these calls does, and returns: it is refused as a bad call where that is so; or it enters, makes its step and shows
  * what that changed, and ends, after so many nanoseconds where it waits. `t` is what the step comes to. */
-#define CALL(bad, exits, step, shows, nanoseconds) \
+#define CALL(bad, what, step, shows, nanoseconds) \
     if (bad) return fault(CHANHUB_BAD_CALL); \
-    uint8_t why = enter_for(h, pid, exits); \
+    uint8_t why = enter(h, pid, what); \
     if (why) return refused(h, why); \
     struct told t = { 0 }; \
     STEP(h, pid, &t, step); \
     shows; \
     return finish(h, (uint8_t)pid, &t, nanoseconds)
 
+/* Notes which port a call made; only turns in a journal want to know. */
+static inline void note_made(chanhub *h, unsigned pid, uint16_t port) {
+    if (h->state == FOLLOWS && only(pid)) h->places[pid].made = port;
+}
+
 chanhub_told chanhub_make(chanhub *h, unsigned pid, uint32_t cap) {
-    CALL(is_bad(h, pid, 0), false, hub_c_make(&h->hub, (uint8_t)pid, cap, &t), (void)0, FOR_EVER);
+    CALL(is_bad(h, pid, 0), ANY_STEP, hub_c_make(&h->hub, (uint8_t)pid, cap, &t), note_made(h, pid, t.it.port), FOR_EVER);
 }
 
 chanhub_told chanhub_send(chanhub *h, unsigned pid, unsigned port, chanhub_value value) {
-    CALL(is_bad(h, pid, port), false, hub_c_send(&h->hub, (uint8_t)pid, (uint16_t)port, &value, &t), show_port(h, port), FOR_EVER);
+    CALL(is_bad(h, pid, port), ANY_STEP, hub_c_send(&h->hub, (uint8_t)pid, (uint16_t)port, &value, &t), show_port(h, port), FOR_EVER);
 }
 
 chanhub_told chanhub_recv(chanhub *h, unsigned pid, unsigned port) {
-    CALL(is_bad(h, pid, port), false, hub_c_recv(&h->hub, (uint8_t)pid, (uint16_t)port, &t), show_port(h, port), FOR_EVER);
+    CALL(is_bad(h, pid, port), ANY_STEP, hub_c_recv(&h->hub, (uint8_t)pid, (uint16_t)port, &t), show_port(h, port), FOR_EVER);
 }
 
 chanhub_told chanhub_close(chanhub *h, unsigned pid, unsigned port) {
-    CALL(is_bad(h, pid, port), false, hub_c_close(&h->hub, (uint8_t)pid, (uint16_t)port, &t), show_port(h, port), FOR_EVER);
+    CALL(is_bad(h, pid, port), (int)port, hub_c_close(&h->hub, (uint8_t)pid, (uint16_t)port, &t), show_port(h, port), FOR_EVER);
 }
 
 chanhub_told chanhub_exit(chanhub *h, unsigned pid) {
-    CALL(is_bad(h, pid, 0), true, hub_c_exit(&h->hub, (uint8_t)pid, &t), h->exits += t.it.what == CHANHUB_DONE, FOR_EVER);
+    CALL(is_bad(h, pid, 0), EXIT, hub_c_exit(&h->hub, (uint8_t)pid, &t), h->exits += t.it.what == CHANHUB_DONE, FOR_EVER);
 }
 
 chanhub_told chanhub_cancel(chanhub *h, unsigned pid, unsigned other) {
     if (!is_bad(h, pid, 0) && other == h->clock && other != NOBODY) return fault(CHANHUB_NO_PROCESS);
-    CALL(is_bad(h, pid, 0) || other > GREATEST_PID, false, hub_c_cancel(&h->hub, (uint8_t)pid, (uint8_t)other, &t), (void)0, FOR_EVER);
+    CALL(is_bad(h, pid, 0) || other > GREATEST_PID, ANY_STEP, hub_c_cancel(&h->hub, (uint8_t)pid, (uint8_t)other, &t), (void)0, FOR_EVER);
 }
 
 /* A select that stays open in the hub once it has waited for so long. */
 #define SELECT(nanoseconds) \
-    CALL(is_bad(h, pid, 0) || !are_cases(cases, count), false, \
+    CALL(is_bad(h, pid, 0) || !are_cases(cases, count), ANY_STEP, \
          hub_c_call(&h->hub, (uint8_t)pid, cases, count, has_default, word, &t), show_fired(h, cases, count, &t), nanoseconds)
 
 chanhub_told chanhub_select(chanhub *h, unsigned pid, const chanhub_case *cases, size_t count, bool has_default, uint64_t word) {

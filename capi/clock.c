@@ -13,17 +13,17 @@
  */
 #include "hub.h"
 
+/* Sets whose calls look closer before they begin. Holds the lock. */
+void look_closer_at(chanhub *h) {
+    h->watched = h->clock_is == AWAKE || h->state ? EVERYBODY : only(h->clock);
+}
+
 /* Notes what the clock is at. Holds the lock. Where the clock waits, no call that waits has a deadline that counts: otherwise
  * the program gives one to a call that had none in the journal that the hub follows. */
 void set_clock(chanhub *h, enum clock clock_is) {
     h->clock_is = clock_is;
     if (clock_is != AWAKE) h->timed = 0;
-    h->watched = clock_is == AWAKE ? EVERYBODY : only(h->clock);
-}
-
-/* Whether the clock's step is next in the journal that the hub follows. */
-bool is_clock_next(chanhub *h) {
-    return !h->end && hub_c_next(&h->hub) & only(h->clock);
+    look_closer_at(h);
 }
 
 /* Does what follows from a step that was made within a call of this process: wakes those whose calls it ended, and hands out the
@@ -58,29 +58,27 @@ static void step_clock_freely(chanhub *h, struct told *t) {
     if (h->exits == h->clock || t->it.fault == CHANHUB_JOURNAL_FULL) exit_clock(h, t);
 }
 
-/* What this process's next step is in the journal that the hub follows, or followed. */
-uint8_t next_step(chanhub *h, unsigned pid) {
-    return next_recorded(&h->recorded, hub_c_entries(&h->hub), pid);
+/* Makes the step that is next in the journal that the hub follows: the clock's, or a close for ends that are gone. */
+static void step_again(chanhub *h, struct told *t) {
+    unsigned pid = (unsigned)__builtin_ctzll(hub_c_next(&h->hub));
+    struct next step = hub_c_step_of(&h->hub, (uint8_t)pid);
+    if (step.what == STEP_CLOSE) close_for_ends(h, pid, step.port, t);
+    else if (step.what == STEP_RECV) park_clock(h, t);
+    else if (step.what == STEP_EXIT) exit_clock(h, t);
+    else cancel_by_clock(h, step.other, t);
 }
 
-/* The clock makes its next step in the journal that the hub follows. */
-static void step_clock_again(chanhub *h, struct told *t) {
-    uint8_t step = next_step(h, h->clock);
-    if (step == A_WAIT) park_clock(h, t);
-    else if (step == AN_EXIT) exit_clock(h, t);
-    else cancel_by_clock(h, step, t);
-}
-
-/* Makes the clock's steps that are due, within a call of this process: more than one if its wait brings a stall. If it is
+/* Makes the library's steps that are due, within a call of this process: more than one if the clock's wait brings a stall. If one is
  * refused memory, it is still due afterwards; a hub that follows a journal ends, since other threads may wait for that step. */
 void settle_clock(chanhub *h, unsigned pid) {
     while (is_clock_due(h)) {
         struct told t = { 0 };
-        if (h->follows) step_clock_again(h, &t);
+        if (h->state) step_again(h, &t);
         else step_clock_freely(h, &t);
         if (is_to_be_made_again(h, pid, &t)) continue;
-        if (t.it.fault == CHANHUB_NO_MEMORY && h->follows) end_at(h, hub_c_entries(&h->hub) + 1);
-        if (t.it.what == CHANHUB_FAULT && t.it.fault != CHANHUB_NOT_PARKED) return;
+        bool is_short = t.it.fault == CHANHUB_NO_MEMORY || t.it.fault == CHANHUB_JOURNAL_FULL;
+        if (is_short && h->state) end_at(h, hub_c_entries(&h->hub) + 1);
+        if (is_short) return;
         follow_up(h, pid, &t);
     }
 }
@@ -97,7 +95,7 @@ uint64_t steps_left(chanhub *h) {
  * that is due waits before it. An exit is never refused: if the clock cannot wait, it exits before. */
 uint8_t refusal_by_clock(chanhub *h, unsigned pid, bool exits) {
     if (pid == h->clock) return CHANHUB_NO_PROCESS;
-    if (h->follows) return 0;
+    if (h->state) return 0;
     settle_clock(h, pid);
     if (exits) {
         struct told t = { 0 };

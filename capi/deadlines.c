@@ -32,24 +32,30 @@ static uint8_t begin_deadline(chanhub *h, unsigned pid) {
 /* Whether a call of this process is to wait without a try, if it has to: while the clock is awake, unless the deadline has
  * passed, or there are no steps to wait and to end it. A journal that is followed says what the call did. */
 static bool waits_untried(chanhub *h, unsigned pid) {
-    if (h->follows) {
-        uint8_t next = next_step(h, pid);
-        return next == A_CALL || next == A_WAIT;
+    if (h->state == FOLLOWS) {
+        uint8_t next = hub_c_step_of(&h->hub, (uint8_t)pid).what;
+        return next == STEP_SEND || next == STEP_RECV || next == STEP_SELECT;
     }
     return h->clock_is == AWAKE && steps_left(h) >= 2 && !has_passed(h->places[pid].deadline);
+}
+
+/* Whether this process wakes the clock in its next step in the journal. */
+static bool wakes_clock_next(chanhub *h, unsigned pid) {
+    struct next next = hub_c_step_of(&h->hub, (uint8_t)pid);
+    return next.what == STEP_CANCEL && next.other == h->clock;
 }
 
 /* Whether a call of this process that was tried in vain is to wait: until its deadline, or as a journal says that was followed
  * at the try, where its process then wakes the clock. */
 static bool waits_when_tried(chanhub *h, unsigned pid, bool followed) {
-    return followed ? next_step(h, pid) == h->clock : !has_passed(h->places[pid].deadline);
+    return followed ? wakes_clock_next(h, pid) : !has_passed(h->places[pid].deadline);
 }
 
 /* Has the clock cancel the open call of this process, unless that is answered before, and picks up its answer. WAITING with the
  * fault where the clock was refused memory. Behind the end of the journal that the hub follows, this ends the hub. */
 chanhub_told time_out(chanhub *h, unsigned pid) {
     struct told t = { 0 };
-    while (h->timed & only(pid) && !h->end) {
+    while (h->timed & only(pid) && h->state != ENDED) {
         cancel_by_clock(h, pid, &t);
         if (is_to_be_made_again(h, pid, &t)) continue;
         bool is_refused = t.it.what != CHANHUB_DONE && t.it.fault != CHANHUB_DIVERGED;
@@ -89,14 +95,14 @@ static chanhub_told select_until(chanhub *h, unsigned pid, const chanhub_case *c
         return (nanoseconds ? chanhub_select : chanhub_begin)(h, pid, cases, count, has_default, word);
     }
     if (pid >= h->clock) return fault(CHANHUB_NO_PROCESS);
-    uint8_t why = enter(h, pid);
+    uint8_t why = enter(h, pid, ANY_STEP);
     if (why) return refused(h, why);
     struct told t = { 0 };
     bool waits, followed;
     h->places[pid].deadline = deadline;
-    if (h->follows && next_step(h, pid) == h->clock) return wait_with_deadline(h, pid, cases, count, word, nanoseconds);
+    if (h->state == FOLLOWS && wakes_clock_next(h, pid)) return wait_with_deadline(h, pid, cases, count, word, nanoseconds);
     do {
-        followed = h->follows;
+        followed = h->state == FOLLOWS;
         waits = waits_untried(h, pid);
         if (waits) h->timed |= only(pid);
         else h->timed &= ~only(pid);

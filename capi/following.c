@@ -7,9 +7,14 @@
  */
 #include "hub.h"
 
+/* The process whose step is next in the journal, as a set; the empty one once no step is made in turn. */
+static uint64_t next_in_turn(chanhub *h) {
+    return h->state == FOLLOWS ? hub_c_next(&h->hub) : 0;
+}
+
 /* The process whose step has to be made first, as a set; the empty one where a call of this process waits for no turn. */
 static uint64_t first_before(chanhub *h, unsigned pid) {
-    return h->follows && !h->end ? hub_c_next(&h->hub) & ~only(pid) : 0;
+    return next_in_turn(h) & ~only(pid);
 }
 
 /* Waits, in a call of this process, until its turn may have come. */
@@ -21,17 +26,102 @@ static void wait_for_turn(chanhub *h, unsigned pid) {
 
 /* The hub ends at the step of this number. */
 void end_at(chanhub *h, uint64_t number) {
-    if (!h->end) h->end = number;
-    h->watched = EVERYBODY;
+    if (!h->diverged) h->diverged = number;
+    h->state = ENDED;
     wake(h, EVERYBODY);
+}
+
+/* ---- Ends that are gone. The journal has each close of a port by the process that made it when its last end went; now the last
+ * may go elsewhere, sooner or later. So the library makes this close as that process, in its turn, once all ends are gone and no
+ * call of the process is in the hub. Until then the process's other calls wait. ---- */
+
+/* Whether the close of this port may be one for its ends: that was said, or the port's maker may be about to say so. */
+static bool may_be_for_ends(chanhub *h, unsigned port) {
+    if (h->with_ends & only_port(port)) return true;
+    if (!h->foresees || !only_port(port)) return false;
+    bool is_new = !hub_c_look(&h->hub, (uint16_t)port).made;
+    for (int pid = 0; pid < MOST_PROCS; pid++) is_new = is_new || h->places[pid].made == port;
+    return is_new;
+}
+
+/* Whether a call of this process has to wait for a close that the library makes. It may close the port itself. */
+static bool is_behind(chanhub *h, unsigned pid, int step) {
+    if (!(h->with_ends || h->foresees) || !only(pid) || !next_in_turn(h)) return false;
+    struct next next = hub_c_step_of(&h->hub, (uint8_t)pid);
+    return next.what == STEP_CLOSE && next.port != step && may_be_for_ends(h, next.port);
+}
+
+/* Waits, before a call of this process, for such closes. Returns why it does not, or 0. What the process made before is no longer
+ * new. */
+uint8_t await_closes(chanhub *h, unsigned pid, int step) {
+    if (only(pid) && h->places[pid].made) {
+        h->places[pid].made = 0;
+        if (h->foresees) wake(h, EVERYBODY);
+    }
+    if (!is_behind(h, pid, step)) return 0;
+    if (h->asks_again) return CHANHUB_NOT_YET;
+    struct pause pause = begin_pause(h, pid);
+    h->behind |= only(pid);
+    while (is_behind(h, pid, step)) sleep_until(h, &h->places[pid], FOR_EVER);
+    h->behind &= ~only(pid);
+    end_pause(h, pause);
+    return 0;
+}
+
+/* Whether the step that is next in the journal is the library's: the clock's, or such a close. */
+bool is_ours_next(chanhub *h) {
+    uint64_t next = next_in_turn(h);
+    if (!next || next & only(h->clock)) return next;
+    if (!h->gone || next & h->open & ~h->behind) return false;
+    struct next step = hub_c_step_of(&h->hub, (uint8_t)__builtin_ctzll(next));
+    return step.what == STEP_CLOSE && h->gone & only_port(step.port);
+}
+
+/* Makes such a close, as this process. */
+void close_for_ends(chanhub *h, unsigned pid, unsigned port, struct told *t) {
+    hub_c_close(&h->hub, (uint8_t)pid, (uint16_t)port, t);
+    show_port(h, port);
+}
+
+/* Closes a port whose ends are gone in a hub that no longer follows, as any process that is in no call. Returns whether there is no
+ * more to do. */
+static bool close_freely(chanhub *h, unsigned port) {
+    chanhub_counts counts = hub_c_look(&h->hub, (uint16_t)port);
+    bool is_done = !counts.made || counts.closed;
+    for (unsigned pid = 0; pid < MOST_PROCS && !is_done; pid++) {
+        struct told t = { 0 };
+        if (h->open & only(pid) || pid == h->clock) continue;
+        close_for_ends(h, pid, port, &t);
+        is_done = t.it.what == CHANHUB_DONE;
+        if (is_done) wake(h, note_step(h, &t));
+    }
+    return is_done;
+}
+
+/* Makes the closes that are due for ends that are gone, within a call of this process. */
+void close_gone(chanhub *h, unsigned pid) {
+    if (h->state == FOLLOWS) settle_clock(h, pid);
+    for (unsigned port = 1; port <= MOST_PORTS && h->state == FREE; port++) {
+        if (h->gone & only_port(port) && close_freely(h, port)) h->gone &= ~only_port(port);
+    }
+}
+
+/* The hub follows no longer: it makes any step. */
+static void go_on(chanhub *h) {
+    h->state = FREE;
+    h->foresees = false;
+    h->with_ends = 0;
+    look_closer_at(h);
+    close_gone(h, NOBODY);
 }
 
 /* Sees to what follows from a call that came to this. Returns whom to wake: the process whose step is next, or all if there is
  * none. Then a hub that goes on no longer follows; otherwise the deadlines of calls that wait end it. */
 uint64_t pass_turn(chanhub *h, const struct told *t) {
-    if (t->it.fault == CHANHUB_DIVERGED && !h->goes_on) end_at(h, t->it.value.number);
+    if (t->it.fault == CHANHUB_DIVERGED && h->goes_on) h->diverged = t->it.value.number;
+    else if (t->it.fault == CHANHUB_DIVERGED) end_at(h, t->it.value.number);
     uint64_t next = hub_c_next(&h->hub);
-    if (!next && h->goes_on) h->follows = false;
+    if (!next && h->goes_on && h->state == FOLLOWS) go_on(h);
     return next ? next : EVERYBODY;
 }
 
@@ -40,14 +130,14 @@ uint64_t pass_turn(chanhub *h, const struct told *t) {
 static bool waits_for_turn(chanhub *h, unsigned pid, struct told *t) {
     if (t->it.what) return false;
     if (!h->asks_again) wait_for_turn(h, pid);
-    if (!h->end && !h->asks_again) return true;
-    t->it = refused(h, h->end ? CHANHUB_DIVERGED : CHANHUB_NOT_YET);
+    if (h->state != ENDED && !h->asks_again) return true;
+    t->it = refused(h, h->state == ENDED ? CHANHUB_DIVERGED : CHANHUB_NOT_YET);
     return false;
 }
 
 /* The same of a step in a hub that follows a journal, or after which a chapter waits. */
 bool is_for_another_try(chanhub *h, unsigned pid, struct told *t) {
-    if (h->follows) return waits_for_turn(h, pid, t);
+    if (h->state) return waits_for_turn(h, pid, t);
     if (t->it.fault != CHANHUB_NO_MEMORY) return false;
     wait_for_room(h, pid);
     return true;
@@ -55,17 +145,41 @@ bool is_for_another_try(chanhub *h, unsigned pid, struct told *t) {
 
 bool chanhub_turn(chanhub *h, unsigned pid, uint64_t nanoseconds) {
     if (is_bad(h, pid, 0) || !only(pid)) return true;
-    uint64_t end = chanhub_in(nanoseconds), first;
-    bool has_time = true;
+    uint64_t end = chanhub_in(nanoseconds);
+    bool has_time = true, waits;
     take_lock(h);
-    while ((first = first_before(h, pid)) && has_time) has_time = sleep_until(h, &h->places[pid], end);
+    while ((waits = first_before(h, pid) || is_behind(h, pid, ANY_STEP)) && has_time) {
+        has_time = sleep_until(h, &h->places[pid], end);
+    }
     leave_lock(h);
-    return !first;
+    return !waits;
+}
+
+void chanhub_closes_with_ends(chanhub *h, unsigned port) {
+    if (!h) return;
+    take_lock(h);
+    if (next_in_turn(h)) {
+        h->with_ends |= only_port(port);
+        h->foresees |= port == 0;
+    }
+    leave_lock(h);
+}
+
+bool chanhub_ends_gone(chanhub *h, unsigned port) {
+    if (!h) return false;
+    take_lock(h);
+    bool is_ours = next_in_turn(h) && h->with_ends & only_port(port);
+    if (is_ours) {
+        h->gone |= only_port(port);
+        if (is_clock_due(h)) settle_clock(h, NOBODY);
+    }
+    leave_lock(h);
+    return is_ours;
 }
 
 void chanhub_stop(chanhub *h) {
     if (!h) return;
     take_lock(h);
-    if (h->follows) end_at(h, hub_c_entries(&h->hub) + 1);
+    if (h->state) end_at(h, hub_c_entries(&h->hub) + 1);
     leave_lock(h);
 }

@@ -14,11 +14,42 @@
  *     watch.c        the watch over hubs in which nothing moves
  *     files.c        whole files
  *
- * heap.c and recorded.c have headers of their own. texts.c stands over chanhub.h alone.
+ * heap.c has a header of its own. texts.c stands over chanhub.h alone.
  *
  * One lock orders all that is asked of a hub. The comment of a function says whether its caller holds it, where that matters;
  * that of a function which other files call stands where it is defined. Each answer is picked up under the lock, so what the
  * thread that brought it wrote before is seen.
+ *
+ * A process is in one of these states, by the sets of struct chanhub that have it:
+ *
+ *     state     sets                     what ends it                                     next
+ *     idle      -                        its call parks                                   waits
+ *                                        its call is before its turn, or has no room      paused
+ *                                        its call is before a close that ends make        behind
+ *     paused    open awaited             its turn comes, there is room                    idle: the step is made (again)
+ *     behind    open awaited behind      the close is made                                idle: the call goes on
+ *     waits     open awaited             an answer is picked up                           idle
+ *                                        no time is left to wait                          begun
+ *     begun     open                     a resume                                         waits
+ *
+ * In each state but idle other calls of the process are refused as BUSY. In a hub that has ended each call, and each that is in one of
+ * these states, is told DIVERGED. A call that waits with a deadline is in `timed` too, and in `timed_out` from its cancel to its answer.
+ *
+ * The clock, while the hub follows no journal; otherwise the journal has its steps:
+ *
+ *     asleep    its own call waits       a call is to wait with a deadline: cancels it    awake
+ *                                        a stall ends it                                  awake
+ *     awake     none of its calls is     no call is in `timed`: it waits                  asleep
+ *               open, it holds up        all others have exited, the journal is full, or
+ *               each stall               an exit finds no memory for its wait: it exits   gone
+ *
+ * The hub:
+ *
+ *     follows   a step waits for its     another step, or all is made                     free, if it goes on
+ *               turn in the journal      another step, a deadline behind the last, a
+ *                                        stop, or no memory for a step of the library     ended
+ *     free      any step is made
+ *     ended     none is, all are told
  */
 #ifndef HUB_H
 #define HUB_H
@@ -27,7 +58,6 @@
 #include "chanhub.h"
 
 #include "hub_c.h"
-#include "recorded.h"
 
 #include <limits.h>
 #include <pthread.h>
@@ -49,6 +79,9 @@ enum {
 #define FOR_EVER CHANHUB_NEVER
 #define EVERYBODY UINT64_MAX
 
+/* Whether the hub makes any step, or those of the journal that it follows, or none any more, since it diverged from that. */
+enum state { FREE, FOLLOWS, ENDED };
+
 /* What the clock is at: the process that cancels calls whose deadlines have passed. */
 enum clock {
     NO_CLOCK, /* the hub has none */
@@ -64,6 +97,7 @@ struct place {
     atomic_uint_least64_t told; /* when it was woken since it was cleared, in ticks; 0 if it was not; read without the lock */
     uint8_t late;               /* how many times running its answer came later than a look would have seen */
     uint8_t sleeps;             /* how many times it sleeps at once before it looks again */
+    uint16_t made;              /* the port that its process's last call made, in a hub that follows a journal; 0 if it made none */
 };
 
 /* What looks at one port see without the lock. */
@@ -88,18 +122,21 @@ struct chanhub {
     uint64_t awaited;           /* for whose answer a thread waits now */
     uint64_t timed;             /* whose call with a deadline waits in the hub, or is about to; nobody's while the clock waits */
     uint64_t timed_out;         /* whose call the clock cancelled; its answer is not picked up */
-    uint64_t watched;           /* whose calls look at the clock first: all while it is awake, and its own */
+    uint64_t watched;           /* whose calls look closer first: all while the clock is awake, or it is not free; and the clock's */
     uint8_t clock;              /* the number of the clock; NOBODY where there is none */
     enum clock clock_is;
     atomic_uint sleepers;       /* how many threads sleep for the lock */
     uint32_t limit;             /* the most steps that are no exits; 0 where the hub never ends */
     uint32_t exits;             /* how many processes have exited */
     uint64_t looked;            /* the ports whose counts are shown */
-    bool follows;               /* whether it follows a journal, so that a step may have to wait for its turn */
-    bool goes_on;               /* whether it goes on when it has diverged from that */
+    enum state state;
+    bool goes_on;               /* whether it is free when it has diverged from the journal */
     bool asks_again;            /* whether a call whose turn has not come is told so */
-    struct recorded recorded;   /* that journal, if it has a clock */
-    atomic_uint_least64_t end;  /* the number of the step at which it ended, since it diverged there; else 0 */
+    bool foresees;              /* whether ports may close with their ends of which that was not said yet */
+    uint64_t with_ends;         /* the ports of which it was said, as long as it follows */
+    uint64_t gone;              /* the ports whose ends are gone, and that may have to be closed */
+    uint64_t behind;            /* whose calls wait for such a close, and are not made yet */
+    atomic_uint_least64_t diverged; /* the number of the step at which it diverged, or was stopped; else 0 */
     bool waits;                 /* whether a chapter waits in the hub; the thread that claimed it hands it out */
     bool handing;               /* whether a chapter is being handed out */
     uint64_t taken;             /* how many chapters were taken out of the hub */
@@ -144,7 +181,7 @@ static inline chanhub_told fault(uint8_t number) {
 /* What a call is told that the hub does not carry out for this reason. */
 static inline chanhub_told refused(const chanhub *h, uint8_t why) {
     chanhub_told t = fault(why);
-    if (why == CHANHUB_DIVERGED) t.value.number = h->end;
+    if (why == CHANHUB_DIVERGED) t.value.number = h->diverged;
     return t;
 }
 
@@ -159,15 +196,14 @@ chanhub_told pick_up(chanhub *h, unsigned pid);
 chanhub_told wait_for(chanhub *h, unsigned pid, uint64_t nanoseconds);
 
 /* calls.c */
-uint8_t look_closer(chanhub *h, unsigned pid, bool exits);
+uint8_t look_closer(chanhub *h, unsigned pid, int step);
 chanhub_told finish_by_waking(chanhub *h, uint8_t pid, const struct told *t, uint64_t nanoseconds);
 
 /* clock.c */
+void look_closer_at(chanhub *h);
 void set_clock(chanhub *h, enum clock clock_is);
-bool is_clock_next(chanhub *h);
 void follow_up(chanhub *h, unsigned pid, const struct told *t);
 void cancel_by_clock(chanhub *h, unsigned pid, struct told *t);
-uint8_t next_step(chanhub *h, unsigned pid);
 void settle_clock(chanhub *h, unsigned pid);
 uint64_t steps_left(chanhub *h);
 uint8_t refusal_by_clock(chanhub *h, unsigned pid, bool exits);
@@ -177,6 +213,10 @@ chanhub_told time_out(chanhub *h, unsigned pid);
 
 /* following.c */
 void end_at(chanhub *h, uint64_t number);
+bool is_ours_next(chanhub *h);
+uint8_t await_closes(chanhub *h, unsigned pid, int step);
+void close_for_ends(chanhub *h, unsigned pid, unsigned port, struct told *t);
+void close_gone(chanhub *h, unsigned pid);
 uint64_t pass_turn(chanhub *h, const struct told *t);
 bool is_for_another_try(chanhub *h, unsigned pid, struct told *t);
 
@@ -254,21 +294,19 @@ static inline void end_pause(chanhub *h, struct pause pause) {
     pthread_setcancelstate(pause.state, &pause.state);
 }
 
-/* Takes the lock for a call in the name of this process, or for its exit. If that cannot begin, returns the fault, without the
- * lock. */
-static inline uint8_t enter_for(chanhub *h, unsigned pid, bool exits) {
-    take_lock(h);
-    return (h->open | h->watched) & only(pid) ? look_closer(h, pid, exits) : 0;
-}
+/* Takes the lock for a call in the name of this process: an exit, the close of a port, or any step. If that cannot begin, returns
+ * the fault, without the lock. */
+enum { EXIT = -1, ANY_STEP = 0 };
 
-static inline uint8_t enter(chanhub *h, unsigned pid) {
-    return enter_for(h, pid, false);
+static inline uint8_t enter(chanhub *h, unsigned pid, int step) {
+    take_lock(h);
+    return (h->open | h->watched) & only(pid) ? look_closer(h, pid, step) : 0;
 }
 
 /* Whether the step that came to this is to be made again, since its turn had not come, or there was no room for another chapter.
  * Both may be otherwise when this returns, unless another thread was faster. Holds the lock, but not while it waits. */
 static inline bool is_to_be_made_again(chanhub *h, unsigned pid, struct told *t) {
-    return (h->follows | t->chapter) && is_for_another_try(h, pid, t);
+    return (h->state | t->chapter) && is_for_another_try(h, pid, t);
 }
 
 /* Makes a step, and again while it is to be. Holds the lock, but not while it waits. */
@@ -293,9 +331,9 @@ static inline bool claims_chapter(chanhub *h, bool chapter) {
     return true;
 }
 
-/* Whether the clock is to make a step: to wait or to exit, or what the journal has. Holds the lock. */
+/* Whether the library is to make a step: the clock is to wait or to exit, or the journal has such a step. Holds the lock. */
 static inline bool is_clock_due(chanhub *h) {
-    return h->follows ? is_clock_next(h) : h->clock_is == AWAKE && !h->timed;
+    return h->state ? is_ours_next(h) : h->clock_is == AWAKE && !h->timed;
 }
 
 /* Notes what follows from a step, and returns whom to wake: those whose calls it ended. If the clock's is among them, it is
@@ -303,13 +341,13 @@ static inline bool is_clock_due(chanhub *h) {
 static inline uint64_t note_step(chanhub *h, const struct told *t) {
     h->timed &= ~t->ended;
     if (t->ended & only(h->clock)) set_clock(h, AWAKE);
-    return h->follows ? t->ended | pass_turn(h, t) : t->ended;
+    return h->state ? t->ended | pass_turn(h, t) : t->ended;
 }
 
 /* Ends the call of a process whose step came to this, which mostly needs no more than the lock. Holds the lock since the step,
  * and leaves it. */
 static inline chanhub_told finish(chanhub *h, uint8_t pid, const struct told *t, uint64_t nanoseconds) {
-    if (t->it.what == CHANHUB_WAITING || t->ended || t->chapter || h->follows) return finish_by_waking(h, pid, t, nanoseconds);
+    if (t->it.what == CHANHUB_WAITING || t->ended || t->chapter || h->state) return finish_by_waking(h, pid, t, nanoseconds);
     leave_lock(h);
     return t->it;
 }

@@ -3,7 +3,10 @@
 
 #include "heap.h"
 
+#include <inttypes.h>
 #include <sched.h>
+#include <stdarg.h>
+#include <stdio.h>
 
 enum {
     SLICE = 256, /* how many pieces of a chapter are read before others are let in */
@@ -77,4 +80,56 @@ char *chanhub_before(chanhub *h, size_t *length) {
 
 void chanhub_free_text(char *text) {
     heap_free(text);
+}
+
+/* ---- Where a hub diverged from the journal that it follows. ---- */
+
+/* Reads the line that a piece is, without its newline; no bytes if there is none. Returns whether memory was there. Holds the lock. */
+static bool read_line(chanhub *h, struct text *line, reader *read, uint64_t number) {
+    *line = (struct text){ 0 };
+    int what = add_piece(h, line, read, number);
+    line->length -= what == WRITTEN;
+    return what != NO_MEMORY;
+}
+
+/* Prints into a block of its own; NULL, and no length, if memory is refused. */
+__attribute__((format(printf, 2, 3))) static char *print(size_t *length, const char *format, ...) {
+    va_list values;
+    va_start(values, format);
+    int size = vsnprintf(NULL, 0, format, values);
+    va_end(values);
+    char *text = heap_alloc((size_t)size + 1);
+    if (!text) return NULL;
+    va_start(values, format);
+    vsnprintf(text, (size_t)size + 1, format, values);
+    va_end(values);
+    *length = (size_t)size;
+    return text;
+}
+
+/* What was asked, if anything was, and what the journal has as the step of this number, if it has one. */
+static char *print_divergence(size_t *length, const struct text *asked, const struct text *given, uint64_t number) {
+    int all = (int)asked->length, has = (int)given->length, pid = 0;
+    while (pid < all && asked->bytes[pid] != ' ') pid++;
+    const char *words = asked->bytes + pid;
+    if (all && has) {
+        return print(length, "P%.*s asked%.*s, step %" PRIu64 " is %.*s", pid, asked->bytes, all - pid, words, number, has, given->bytes);
+    }
+    if (all) return print(length, "P%.*s asked%.*s, the journal ends with step %" PRIu64, pid, asked->bytes, all - pid, words, number - 1);
+    if (has) return print(length, "stopped before step %" PRIu64 ", which is %.*s", number, has, given->bytes);
+    return print(length, "stopped behind the last step, %" PRIu64, number - 1);
+}
+
+char *chanhub_divergence(chanhub *h, size_t *length) {
+    *length = 0;
+    if (!h) return NULL;
+    struct text asked = { 0 }, given = { 0 };
+    take_lock(h);
+    uint64_t number = h->diverged;
+    bool has_both = number && read_line(h, &asked, hub_c_asked, 0) && read_line(h, &given, hub_c_given, number);
+    leave_lock(h);
+    char *text = has_both ? print_divergence(length, &asked, &given, number) : NULL;
+    heap_free(asked.bytes);
+    heap_free(given.bytes);
+    return text;
 }

@@ -21,7 +21,6 @@ static void init_place(struct place *place) {
 /* The hub that was opened, or why it was not. */
 static int opened(chanhub **hub, chanhub *h, int refusal) {
     if (refusal) {
-        free_recorded(&h->recorded);
         free(h);
         return refusal;
     }
@@ -85,12 +84,6 @@ static int differs(const chanhub_options *o, bool has_clock) {
     return o->edition && o->edition != number_at(edition) ? 4 : 0;
 }
 
-/* What refuses the journal that a hub which was just opened is to follow, or 0. Reads it if it has a clock. */
-static int read_journal_of(chanhub *h, const chanhub_options *o) {
-    if (!read_recorded(&h->recorded, o->journal, o->journal_length)) return 3;
-    return differs(o, h->recorded.count != 0);
-}
-
 /* Opens a hub that follows the journal of the options. If that has a clock, its first step is the clock's. */
 static int open_following(chanhub **hub, const chanhub_options *o) {
     if (o->limit || o->keep || o->chapters) return 7;
@@ -98,15 +91,18 @@ static int open_following(chanhub **hub, const chanhub_options *o) {
     if (!h) return 3;
     struct followed f = hub_c_open_following(&h->hub, (const uint8_t *)o->journal, o->journal_length, o->goes_on);
     if (o->journal_line) *o->journal_line = f.line;
-    int why = f.refusal ? f.refusal : read_journal_of(h, o);
+    uint8_t clock = hub_c_clock(&h->hub);
+    int why = f.refusal ? f.refusal : differs(o, clock != NOBODY);
     if (why) hub_c_end(&h->hub);
     h->limit = MOST_STEPS;
     h->goes_on = o->goes_on;
     h->asks_again = o->asks_again;
     why = opened(hub, h, why);
-    if (!why && h->recorded.count) why = start_clock(hub, h->recorded.entries[0].pid);
-    if (!why) h->follows = !h->goes_on || hub_c_next(&h->hub);
-    return why;
+    if (!why && clock != NOBODY) why = start_clock(hub, clock);
+    if (why) return why;
+    (*hub)->state = o->goes_on && !hub_c_next(&(*hub)->hub) ? FREE : FOLLOWS;
+    look_closer_at(*hub);
+    return 0;
 }
 
 static int open_as(chanhub **hub, const chanhub_options *o) {
@@ -150,6 +146,5 @@ void chanhub_free(chanhub *h) {
     for (int pid = 0; pid < MOST_PROCS; pid++) pthread_cond_destroy(&h->places[pid].answered);
     pthread_cond_destroy(&h->handed);
     pthread_mutex_destroy(&h->lock);
-    free_recorded(&h->recorded);
     free(h);
 }

@@ -73,7 +73,7 @@ bool has_passed(uint64_t time) {
 /* When the deadline of this process's open call passes. No time ends a call until all of the journal that the hub follows is
  * made. Holds the lock. */
 static uint64_t deadline_of(chanhub *h, unsigned pid) {
-    return h->timed & only(pid) && !(h->follows && hub_c_next(&h->hub)) ? h->places[pid].deadline : FOR_EVER;
+    return h->timed & only(pid) && !(h->state && hub_c_next(&h->hub)) ? h->places[pid].deadline : FOR_EVER;
 }
 
 /* ---- Waits for answers. ---- */
@@ -119,7 +119,7 @@ bool sleep_until(chanhub *h, struct place *mine, uint64_t end) {
 chanhub_told pick_up(chanhub *h, unsigned pid) {
     struct told t = { 0 };
     hub_c_take(&h->hub, (uint8_t)pid, &t);
-    if (!t.it.what && h->end) t.it = refused(h, CHANHUB_DIVERGED);
+    if (!t.it.what && h->state == ENDED) t.it = refused(h, CHANHUB_DIVERGED);
     if (!t.it.what) return t.it;
     if (h->timed_out & only(pid)) t.it.what = CHANHUB_TIMED_OUT;
     h->timed_out &= ~only(pid);
@@ -158,5 +158,6 @@ chanhub_told wait_for(chanhub *h, unsigned pid, uint64_t nanoseconds) {
     if (!t.what && nanoseconds) t = wait_until(h, pid, chanhub_in(nanoseconds));
     if (!t.what && has_passed(deadline_of(h, pid))) t = time_out(h, pid);
     if (!t.what) t.what = CHANHUB_WAITING;
+    else if (h->gone) close_gone(h, pid);
     return t;
 }

@@ -18,9 +18,9 @@ enum {
 };
 
 static pthread_once_t once = PTHREAD_ONCE_INIT;
-static pthread_mutex_t lock = PTHREAD_MUTEX_INITIALIZER; /* is taken before that of a hub; without it `first` and `written` are left alone */
 static const char *file; /* NULL where nothing is watched */
 static uint64_t seconds;
+static pthread_mutex_t lock = PTHREAD_MUTEX_INITIALIZER; /* of what follows; it is taken before that of a hub */
 static chanhub *first;   /* the hubs that are open, the oldest first */
 static unsigned written; /* of how many hubs a journal was written */
 

@@ -21,7 +21,7 @@ cxxflags='-std=c++17 -O2 -Wall -Wextra -Werror -I.'
 by_cxx=
 flags="-std=c11 -D_DEFAULT_SOURCE -O2 -Wall -Wextra -Werror -I."
 # what tests link with the names within the library, to wrap them; texts.c, which needs none of it, is left out
-hub='calls.c chapters.c clock.c deadlines.c files.c following.c heap.c journals.c looks.c opening.c recorded.c waits.c watch.c'
+hub='calls.c chapters.c clock.c deadlines.c files.c following.c heap.c journals.c looks.c opening.c waits.c watch.c'
 proved="../crates/hub_c/out/libhub_c.a $(dirname "$(rt doc)")/c/liblibc_c.a"
 threads='cancelled second closed stalled handed'
 handing='busy parked woken full cancelled slow inside'
@@ -209,7 +209,7 @@ printf 'stalled: 0 recv 2\nstalled: 1 recv 1\n' > "$work/stalled"
 printf 'got 5\nneither\nsent\n' > "$work/choice-lines"
 
 for test in calls conveniences crew threads memory endless handing chapters files soak steps deadlines following followed_clock \
-    followed_runs watch; do
+    followed_runs ends watch; do
     check "$test builds" "$cc" $flags "tests/$test.c" out/libchanhub.a -lpthread -o "$work/$test"
 done
 check 'resume builds' "$cc" $flags -Wl,--wrap=clock_gettime tests/resume.c out/libchanhub.a -lpthread -o "$work/resume"
@@ -244,6 +244,9 @@ check 'clock builds' "$cc" $flags $wrapped $hub tests/clock.c $proved -lpthread 
 check 'each step refused while deadlines pass' "$work/clock"
 for test in alone threads; do
     check "a journal is followed: $test" "$work/following" "$test"
+done
+for test in alone threads; do
+    check "ports that close with their ends: $test" "$work/ends" "$test"
 done
 check 'a journal with a clock is followed' "$work/followed_clock"
 check 'a journal with a clock is followed: 200 random runs' "$work/followed_runs" 200
@@ -309,7 +312,7 @@ if echo 'int main(void) { return 0; }' | "$cc" -fsanitize=thread -x c - -o "$wor
     sanitized="$work/sanitized.o $proved -lpthread"
     check 'the library builds for the thread sanitizer' "$cc" $sanitize -r -nostdlib $hub texts.c \
         -o "$work/sanitized.o"
-    for test in crew threads handing chapters soak deadlines following followed_runs watch; do
+    for test in crew threads handing chapters soak deadlines following followed_runs ends watch; do
         check "$test builds for the thread sanitizer" "$cc" $sanitize "tests/$test.c" $sanitized -o "$work/sanitized-$test"
     done
     check 'resume builds for the thread sanitizer' "$cc" $sanitize -Wl,--wrap=clock_gettime tests/resume.c $sanitized -o "$work/sanitized-resume"
@@ -330,6 +333,8 @@ if echo 'int main(void) { return 0; }' | "$cc" -fsanitize=thread -x c - -o "$wor
     check 'deadlines under the thread sanitizer: chapters' deadlines sanitized-deadlines chapters
     check 'a journal is followed under the thread sanitizer: alone' "$work/sanitized-following" alone
     check 'a journal is followed under the thread sanitizer: threads' "$work/sanitized-following" threads 20
+    check 'ports that close with their ends under the thread sanitizer: alone' "$work/sanitized-ends" alone
+    check 'ports that close with their ends under the thread sanitizer: threads' "$work/sanitized-ends" threads 40
     check 'a journal with a clock is followed under the thread sanitizer: 20 random runs' "$work/sanitized-followed_runs" 20
     for test in $handing; do
         check "chapters that are handed out under the thread sanitizer: $test" "$work/sanitized-handing" "$test"
@@ -345,7 +350,7 @@ else
 fi
 if command -v valgrind > "$work/found"; then
     for test in calls conveniences $by_cxx "crew $work 1 20" pool 'threads cancelled' 'threads second' 'threads closed' 'resume alone' \
-        'resume threads' 'deadlines alone' 'following alone' followed_clock 'endless short' \
+        'resume threads' 'deadlines alone' 'following alone' followed_clock 'ends alone' 'endless short' \
         'handing busy' 'handing parked' 'handing woken' 'handing full' 'handing cancelled' \
         "files $(mktemp -d -p "$work")"; do
         check "valgrind: $test" valgrind -q --error-exitcode=9 --leak-check=full --show-leak-kinds=all "$work"/$test

@@ -224,6 +224,7 @@ static void all_wait_at_the_end(void) {
     is("waits", begin_recv(hub, 1, CHANHUB_NEVER).what, CHANHUB_WAITING);
     is_diverged("its deadline passes", chanhub_resume(hub, 0, CHANHUB_NEVER), 7);
     is_diverged("the other", chanhub_resume(hub, 1, CHANHUB_NEVER), 7);
+    diverged_so(hub, "P2 asked cancel 0, the journal ends with step 6");
     has_journal("the same", hub, journal);
     chanhub_free(hub);
 

@@ -39,7 +39,9 @@ static void turns(void) {
 static void divergences(void) {
     chanhub *hub = follows(JOURNAL, true);
     is("made", chanhub_make(hub, 0, 0).port, 1);
+    has_not_diverged(hub);
     is_diverged("not a close yet", chanhub_close(hub, 0, 1), 3);
+    diverged_so(hub, "P0 asked close 1, step 3 is 0 send 1 9");
     is("it goes on", chanhub_close(hub, 0, 1).what, CHANHUB_DONE);
     is("it goes on", chanhub_recv(hub, 1, 1).what, CHANHUB_DRAINED);
     chanhub_free(hub);
@@ -49,6 +51,7 @@ static void divergences(void) {
     is("made", chanhub_make(hub, 0, 0).port, 1);
     is("waiting", chanhub_begin(hub, 1, &receive, 1, false, 0).what, CHANHUB_WAITING);
     is_diverged("another value", chanhub_send(hub, 0, 1, chanhub_number(8)), 3);
+    diverged_so(hub, "P0 asked send 1 8, step 3 is 0 send 1 9");
     is_diverged("ended", chanhub_send(hub, 0, 1, chanhub_number(9)), 3);
     is_diverged("its call", chanhub_resume(hub, 1, CHANHUB_NEVER), 3);
     is_diverged("ended", chanhub_recv(hub, 1, 1), 3);
@@ -61,6 +64,7 @@ static void divergences(void) {
     hub = follows("chanhub journal 1\nprocs 1\n0 make 1\n", false);
     is("made", chanhub_make(hub, 0, 1).port, 1);
     is_diverged("behind the end", chanhub_exit(hub, 0), 2);
+    diverged_so(hub, "P0 asked exit, the journal ends with step 1");
     is_fault("no process", chanhub_exit(hub, 1), CHANHUB_DIVERGED);
     chanhub_free(hub);
 }
@@ -71,6 +75,22 @@ static void is_refused(const char *name, chanhub_options options, int wanted) {
     uint32_t line = 7;
     options.journal_line = &line;
     is(name, chanhub_open_with(&hub, &options), wanted), is("no line", line, 0), is("no hub", hub == NULL, 1);
+}
+
+/* The word of a select is the journal's; its cases and its default are not. */
+static void choice_words(void) {
+    static const char *const journal =
+        "chanhub journal 2\nprocs 1\n0 make 1\n0 make 1\n0 select 3 s1:5 s2:6\n0 select 9 r2\n0 select 1 r2 default\n";
+    chanhub_case sends[2] = { { true, 1, chanhub_number(5) }, { true, 2, chanhub_number(6) } };
+    chanhub_case receive = { .port = 2 };
+    chanhub *hub = follows(journal, true);
+    is("made", chanhub_make(hub, 0, 1).port, 1), is("made", chanhub_make(hub, 0, 1).port, 2);
+    is("the journal's case", chanhub_select(hub, 0, sends, 2, false, 0).index, 1);
+    is("got", (long long)chanhub_select(hub, 0, &receive, 1, false, 0).value.number, 6);
+    is_diverged("no default", chanhub_select(hub, 0, &receive, 1, false, 1), 5);
+    diverged_so(hub, "P0 asked select 1 r2, step 5 is 0 select 1 r2 default");
+    is("its own word", chanhub_select(hub, 0, sends, 2, true, 1).index, 1);
+    chanhub_free(hub);
 }
 
 /* Why a journal is not followed, and what the options must not say with one. */
@@ -126,6 +146,25 @@ static void stops(void) {
     chanhub_stop(hub);
     pthread_join(thread, NULL);
     is_diverged("later", chanhub_make(hub, 0, 0), 1);
+    diverged_so(hub, "stopped before step 1, which is 0 make 0");
+    chanhub_free(hub);
+
+    hub = follows("chanhub journal 1\nprocs 1\n0 make 1\n", false);
+    is("made", chanhub_make(hub, 0, 1).port, 1);
+    chanhub_stop(hub);
+    diverged_so(hub, "stopped behind the last step, 1");
+    chanhub_free(hub);
+
+    chanhub_value bytes = chanhub_bytes("0123456789abcdef0123456789abcdef", 32);
+    chanhub_case all[16];
+    for (int i = 0; i < 16; i++) all[i] = (chanhub_case){ .sends = true, .port = 0, .value = bytes };
+    hub = follows("chanhub journal 2\nprocs 12\n11 select 7 r0 s0:#61 default\n", false);
+    is_diverged("another call", chanhub_select(hub, 11, all, 16, false, 7), 1);
+    size_t length;
+    char *text = chanhub_divergence(hub, &length);
+    is("its length", (long long)length, (long long)(strlen("P11 asked select 7") + 16 * strlen(" s0:#") + 16 * 64 +
+       strlen(", step 1 is 11 select 7 r0 s0:#61 default")));
+    chanhub_free_text(text);
     chanhub_free(hub);
 
     hub = follows(JOURNAL, false);
@@ -142,8 +181,10 @@ static void stops(void) {
     chanhub_stop(hub);
     is("it follows nothing", chanhub_make(hub, 0, 0).port, 1);
     is("it follows nothing", chanhub_turn(hub, 0, 0), 1);
+    has_not_diverged(hub);
     chanhub_free(hub);
     chanhub_stop(NULL);
+    has_not_diverged(NULL);
 }
 
 /* A stop behind a divergence leaves the number that is told. */
@@ -152,6 +193,7 @@ static void stops_behind_a_divergence(void) {
     is_diverged("another step", chanhub_make(hub, 1, 0), 2);
     chanhub_stop(hub);
     is_diverged("the same", chanhub_make(hub, 0, 0), 2);
+    diverged_so(hub, "P1 asked make 0, step 2 is 1 recv 1");
     chanhub_free(hub);
 }
 
@@ -164,9 +206,10 @@ static void *was_woken(void *told) {
 
 static void stops_a_woken_call(void) {
     enum { ROUNDS = 100 };
+    static const char *const journal = "chanhub journal 2\nprocs 2\n0 make 1\n0 send 1 9\n1 recv 1\n";
     for (int i = 0; i < ROUNDS; i++) {
         pthread_t thread;
-        union { chanhub *hub; chanhub_told told; } call = { .hub = follows("chanhub journal 2\nprocs 2\n0 make 1\n0 send 1 9\n1 recv 1\n", false) };
+        union { chanhub *hub; chanhub_told told; } call = { .hub = follows(journal, false) };
         chanhub *hub = call.hub;
         pthread_create(&thread, NULL, was_woken, &call);
         usleep(200);
@@ -314,6 +357,7 @@ int main(int count, char **words) {
     if (count > 1 && strcmp(words[1], "alone") == 0) {
         turns();
         divergences();
+        choice_words();
         refusals();
         stops();
         stops_behind_a_divergence();

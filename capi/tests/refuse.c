@@ -77,6 +77,25 @@ static int run_following(long allowed) {
     return run_with(&options, allowed);
 }
 
+/* Where it diverges, what is told of that, once memory is there. */
+static int run_diverging(long allowed) {
+    static const char journal[] = "chanhub journal 2\nprocs 1\n0 make 3\n", wanted[] = "P0 asked exit, step 1 is 0 make 3";
+    chanhub_options options = { .journal = journal, .journal_length = sizeof journal - 1 };
+    chanhub *hub;
+    size_t length;
+    refused = 0;
+    left = allowed;
+    int why = chanhub_open_with(&hub, &options);
+    if (why && (why != 3 || hub || chanhub_open_with(&hub, &options))) return 1;
+    if (chanhub_exit(hub, 0).fault != CHANHUB_DIVERGED) return 1;
+    char *text = chanhub_divergence(hub, &length);
+    if (!text && (!refused || length || !(text = chanhub_divergence(hub, &length)))) return 1;
+    bool is_wrong = length != sizeof wanted - 1 || memcmp(text, wanted, length) != 0;
+    chanhub_free_text(text);
+    chanhub_free(hub);
+    return is_wrong;
+}
+
 /* The chapters that were handed out. Nothing is allocated for them. */
 static struct { int count, lost; bool are_right; } given;
 
@@ -283,6 +302,7 @@ static int refuse_each(const char *name, int (*run)(long allowed)) {
 int main(void) {
     int failed = refuse_each("a hub", run);
     failed |= refuse_each("a hub that follows a journal", run_following);
+    failed |= refuse_each("one that diverges", run_diverging);
     failed |= refuse_each("a hub that never ends", run_endless);
     failed |= refuse_each("one with a clock", run_timed_endless);
     failed |= refuse_each("a long chapter", run_long);

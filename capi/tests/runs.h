@@ -22,6 +22,19 @@ static inline void is_diverged(const char *name, chanhub_told t, int step) {
     is(name, (long long)t.value.number, step);
 }
 
+/* What is told of the hub's divergence. */
+static inline void diverged_so(chanhub *hub, const char *wanted) {
+    size_t length;
+    char *text = chanhub_divergence(hub, &length);
+    is(wanted, text && length == strlen(wanted) && memcmp(text, wanted, length) == 0, 1);
+    chanhub_free_text(text);
+}
+
+static inline void has_not_diverged(chanhub *hub) {
+    size_t length = 1;
+    is("no divergence", chanhub_divergence(hub, &length) == NULL && length == 0, 1);
+}
+
 /* Opens a hub that follows this journal. */
 static inline chanhub *follows(const char *journal, bool goes_on) {
     chanhub *hub;

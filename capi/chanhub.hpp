@@ -94,7 +94,18 @@ struct chanhub {
     // The cases of a select.
     static Case recv(Port port) noexcept;
     static Case send(Port port, const Value &value) noexcept;
+
+private:
+    // The text that this call of C makes, or nothing if it makes none.
+    static std::optional<std::string> text_by(char *(*call)(chanhub *, std::size_t *), chanhub *hub);
 };
+
+inline std::optional<std::string> chanhub::text_by(char *(*call)(chanhub *, std::size_t *), chanhub *hub) {
+    std::size_t length = 0;
+    const std::unique_ptr<char, void (*)(char *)> text(call(hub, &length), chanhub_free_text);
+    if (!text) return std::nullopt;
+    return std::string(text.get(), length);
+}
 
 // What a channel carries: a number or, in edition 2, 0 to 32 bytes.
 class chanhub::Value {
@@ -164,13 +175,15 @@ struct chanhub::Told {
         : outcome(static_cast<Outcome>(told.what)), fault(static_cast<Fault>(told.fault)), index(told.index),
           port(static_cast<Port>(told.port)), value(told.value) {}
 
-    // `sent`, `stalled`, and for a fault its reason.
-    [[nodiscard]] std::string text() const {
+    // `sent`, `stalled`, and for a fault its reason. For the fault Diverged also what Hub::divergence returned, if that is given, or else
+    // the number of the step.
+    [[nodiscard]] std::string text(const std::optional<std::string> &divergence = std::nullopt) const {
         const std::string name = chanhub_what_name(static_cast<int>(outcome));
         if (outcome != Outcome::Fault) return name;
         const int number = static_cast<int>(fault);
-        const std::string step = fault == Fault::Diverged ? ": step " + std::to_string(value.number()) : "";
-        return name + ' ' + std::to_string(number) + ": " + chanhub_strfault(number) + step;
+        const std::string reason = name + ' ' + std::to_string(number) + ": " + chanhub_strfault(number);
+        if (fault != Fault::Diverged) return reason;
+        return reason + ": " + (divergence ? *divergence : "step " + std::to_string(value.number()));
     }
 };
 
@@ -181,7 +194,8 @@ public:
         : std::runtime_error(std::string("chanhub: ") + chanhub_strerror(opening) +
                              (line ? ", in line " + std::to_string(line) : "")),
           opening_(opening) {}
-    explicit Error(const Told &told) : std::runtime_error("chanhub: " + told.text()), told_(told) {}
+    explicit Error(const Told &told, const std::optional<std::string> &divergence = std::nullopt)
+        : std::runtime_error("chanhub: " + told.text(divergence)), told_(told) {}
 
     // What chanhub_open returned; 0 if it was a call that failed.
     [[nodiscard]] int opening() const noexcept { return opening_; }
@@ -301,8 +315,8 @@ private:
     }
     static std::uint64_t deadline_in(std::chrono::nanoseconds time) noexcept { return chanhub_in(number_of(time)); }
 
-    static const Told &wanted(const Told &told, Outcome outcome) {
-        if (told.outcome != outcome) throw Error(told);
+    const Told &wanted(const Told &told, Outcome outcome) const {
+        if (told.outcome != outcome) throw Error(told, text_by(chanhub_divergence, hub_));
         return told;
     }
 
@@ -470,13 +484,17 @@ public:
 
     // Throws std::bad_alloc if memory runs out.
     [[nodiscard]] std::string journal() const {
-        std::optional<std::string> text = text_by(chanhub_journal);
+        std::optional<std::string> text = text_by(chanhub_journal, hub_.get());
         if (!text) throw std::bad_alloc();
         return *std::move(text);
     }
 
     // Nothing if there is no chapter before, or no memory.
-    [[nodiscard]] std::optional<std::string> before() const { return text_by(chanhub_before); }
+    [[nodiscard]] std::optional<std::string> before() const { return text_by(chanhub_before, hub_.get()); }
+
+    // Where a hub that follows a journal diverged, what was asked and what the journal has: `P2 asked send 2 3, step 17 is 2 send 2 2`.
+    // Nothing if it has not diverged, or if memory runs out.
+    [[nodiscard]] std::optional<std::string> divergence() const { return text_by(chanhub_divergence, hub_.get()); }
 
     // Has the time of the process's waiting call be up. Returns false if it has no waiting call with such a time.
     bool expire(unsigned pid) const noexcept { return chanhub_expire(hub_.get(), pid); }
@@ -516,13 +534,6 @@ private:
 
     static void hand_out(void *chapters, const char *text, std::size_t length) noexcept {
         (*static_cast<Chapters *>(chapters))({text, length});
-    }
-
-    std::optional<std::string> text_by(char *(*call)(chanhub *, std::size_t *)) const {
-        std::size_t length = 0;
-        const std::unique_ptr<char, void (*)(char *)> text(call(hub_.get(), &length), chanhub_free_text);
-        if (!text) return std::nullopt;
-        return std::string(text.get(), length);
     }
 
     std::unique_ptr<chanhub, Free> hub_;

@@ -151,7 +151,7 @@ static void moves() {
     is("got", seat.recv(port) == Value(5));
     is("the same", third.seat(0).recv_told(Port{9}).fault == Fault::NoPort && third.get() != nullptr);
     is_fault("no hub", second.seat(0).recv_told(port), Fault::BadCall);
-    is("no hub", second.steps_left() == 0 && !second.look(port).made && second.get() == nullptr);
+    is("no hub", second.steps_left() == 0 && !second.look(port).made && second.get() == nullptr && !second.divergence());
     throws_other<std::bad_alloc>("no journal", [&] { static_cast<void>(second.journal()); });
 }
 
@@ -501,28 +501,32 @@ static void is_refused(const char *name, std::string_view text, int cause, std::
 
 static void follows() {
     const std::string journal = "chanhub journal 2\nprocs 1\n0 make 1\n0 send 1 7\n0 recv 1\n";
-    const char *const text = "chanhub: fault 14: the journal that the hub follows has another step here: step 4";
+    const std::string fault = "fault 14: the journal that the hub follows has another step here: ";
+    const std::string text = "chanhub: " + fault + "P0 asked send 1 8, the journal ends with step 3";
     const Hub hub = Hub::follow(journal);
     const Seat seat = hub.seat(0);
     const Port port = seat.make(1);
     seat.send(port, 7);
-    is("followed", seat.recv(port) == Value(7) && hub.journal() == journal);
-    throws("behind the end", Outcome::Fault, Fault::Diverged, text, [&] { seat.send(port, 8); });
-    is_fault("ended", seat.recv_told(port), Fault::Diverged);
+    is("followed", seat.recv(port) == Value(7) && hub.journal() == journal && !hub.divergence());
+    throws("behind the end", Outcome::Fault, Fault::Diverged, text.c_str(), [&] { seat.send(port, 8); });
+    throws("ended", Outcome::Fault, Fault::Diverged, text.c_str(), [&] { static_cast<void>(seat.recv(port)); });
 
     const Hub free = Hub::follow(journal, true);
     is("made", free.seat(0).make(1) == port);
     const Told other = free.seat(0).send_told(port, 8);
     is_fault("another value", other, Fault::Diverged);
-    is("its step", other.value == Value(2));
+    is("its step", other.value == Value(2) && other.text() == fault + "step 2");
+    is("what was asked", other.text(free.divergence()) == fault + "P0 asked send 1 8, step 2 is 0 send 1 7");
     free.seat(0).send(port, 8);
     is("goes on", free.seat(0).recv(port) == Value(8));
+    throws("later", Outcome::Stalled, Fault::None, "chanhub: stalled", [&] { static_cast<void>(free.seat(0).recv(port)); });
 
     const Hub stopped = Hub::follow(journal);
     stopped.stop();
     const Told told = stopped.seat(0).make_told(1);
     is_fault("stopped", told, Fault::Diverged);
     is("the step that would be next", told.value == Value(1));
+    is("what would be next", stopped.divergence() == "stopped before step 1, which is 0 make 1");
 
     const std::string chosen = "chanhub journal 2\nprocs 1\n0 make 1\n0 select 1 s1:7 s1:8\n0 recv 1\n";
     const Hub again = Hub::follow(chosen);

@@ -20,11 +20,23 @@ import (
 // A DivergedError is returned by a call where the journal that the hub follows has another step. The call was not made.
 type DivergedError struct {
 	Step uint64 // the number of the journal's step, from 1
+	Text string // what was asked, and what the journal has; empty if there was no memory for it
 }
 
-// Error says at which step the hub diverged.
+// Error says what was asked and what the journal has, such as "P2 asked send 2 3, step 17 is 2 send 2 2".
 func (e DivergedError) Error() string {
-	return fmt.Sprintf("chanhub: the journal that the hub follows has another step here: step %d", e.Step)
+	if e.Text == "" {
+		e.Text = fmt.Sprintf("step %d", e.Step)
+	}
+	return "chanhub: the journal that the hub follows has another step here: " + e.Text
+}
+
+// divergence returns what was asked and what the journal has, where the hub diverged.
+func (h *Hub) divergence() string {
+	text, _ := h.text(func(hub *C.chanhub, length *C.size_t) *C.char {
+		return C.chanhub_divergence(hub, length)
+	})
+	return string(text)
 }
 
 // A JournalError is returned by [Follow] for a journal that cannot be followed.

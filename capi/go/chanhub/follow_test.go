@@ -24,11 +24,11 @@ func follow(t *testing.T, journal []byte, goesOn bool) *chanhub.Hub {
 	return hub
 }
 
-func diverges(t *testing.T, name string, err error, step uint64) {
+func diverges(t *testing.T, name string, err error, step uint64, text string) {
 	t.Helper()
 	var diverged chanhub.DivergedError
-	if !errors.As(err, &diverged) || diverged.Step != step {
-		t.Errorf("%s: found %v, wanted step %d", name, err, step)
+	if !errors.As(err, &diverged) || diverged.Step != step || !strings.HasSuffix(err.Error(), ": "+text) {
+		t.Errorf("%s: found %v, wanted %s", name, err, text)
 	}
 }
 
@@ -174,9 +174,19 @@ func TestDivergences(t *testing.T) {
 		_, err := one.Recv(port)
 		waits <- err
 	}()
-	diverges(t, "another value", zero.Send(port, chanhub.Number(8)), 3)
-	diverges(t, "a call that waits", <-waits, 3)
-	diverges(t, "an exit", zero.Exit(), 3)
+	const text = "P0 asked send 1 8, step 3 is 0 send 1 9"
+	diverges(t, "another value", zero.Send(port, chanhub.Number(8)), 3, text)
+	diverges(t, "a call that waits", <-waits, 3, text)
+	diverges(t, "an exit", zero.Exit(), 3, text)
+
+	hub = follow(t, []byte("chanhub journal 2\nprocs 1\n0 select 7 r1 s0:#00ff default\n"), false)
+	_, _, err = hub.Seat(0).TrySelect(7, chanhub.RecvCase(2), chanhub.SendCase(0, bytesOf(t, "\x00\xff")))
+	diverges(t, "another case", err, 1, "P0 asked select 7 r2 s0:#00ff default, step 1 is 0 select 7 r1 s0:#00ff default")
+
+	hub = follow(t, []byte("chanhub journal 1\nprocs 1\n0 make 1\n"), false)
+	_, err = hub.Seat(0).Make(1)
+	isError(t, "make", err, nil)
+	diverges(t, "behind the end", hub.Seat(0).Exit(), 2, "P0 asked exit, the journal ends with step 1")
 
 	hub = follow(t, []byte("chanhub journal 1\nprocs 1\n0 make 1\n"), true)
 	port, err = hub.Seat(0).Make(1)
@@ -212,6 +222,16 @@ func TestCloseOfAFollowedHub(t *testing.T) {
 	}()
 	hub.Close()
 	isError(t, "a call that waits for its turn", <-waits, chanhub.ErrHubClosed)
+
+	for i := 0; i < 100; i++ {
+		hub := follow(t, []byte(followed), false)
+		ended := make(chan error)
+		go func() { ended <- hub.Seat(0).Exit() }()
+		hub.Close()
+		if err := <-ended; !errors.Is(err, chanhub.ErrHubClosed) {
+			diverges(t, "while it is closed", err, 1, "P0 asked exit, step 1 is 0 make 0")
+		}
+	}
 }
 
 func TestJournalsThatAreNotFollowed(t *testing.T) {

@@ -129,6 +129,9 @@ func (s *Seat) call(step func(hub *C.chanhub, pid C.uint) C.chanhub_told) (told,
 		return told{}, err
 	}
 	told := toldOf(step(s.hub.at, within(s.pid)))
+	if told.fault == C.CHANHUB_DIVERGED {
+		told.divergence = s.hub.divergence()
+	}
 	closed := s.hub.leave(s.pid)
 	if closed && (told.what == C.CHANHUB_STALLED || told.what == C.CHANHUB_TIMED_OUT || told.fault == C.CHANHUB_DIVERGED) {
 		return told, ErrHubClosed

@@ -15,6 +15,8 @@ type told struct {
 	index int
 	port  Port
 	value Value
+
+	divergence string // what DivergedError tells
 }
 
 func toldOf(raw C.chanhub_told) told {
@@ -42,7 +44,7 @@ func (t told) err() error {
 		return context.DeadlineExceeded
 	case C.CHANHUB_FAULT:
 		if t.fault == C.CHANHUB_DIVERGED {
-			return DivergedError{Step: t.value.number}
+			return DivergedError{Step: t.value.number, Text: t.divergence}
 		}
 		return t.fault
 	case waiting:

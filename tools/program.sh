@@ -6,7 +6,7 @@
 # README with what they speak of; looks for limits that are written as numbers, and for definitions and proofs that are too
 # wide; counts the instructions of replays, where valgrind is there; tries a close by an end that receives; has each program
 # refuse bad arguments; tries the words of the built chanhub_tool, converses with it, and compares its stories, pictures, diagrams
-# and traces with second readings, and pages that browsers show; sees that who waits sleeps, by sleeps.py; tries the scripts that build, by builds_test.py, and those
+# and traces with second readings, and pages that browsers show; sees that who waits sleeps, by sleeps.py; compares what is not built with what is; tries the scripts that build, by builds_test.py, and those
 # that look at scenarios, by scenarios_test.py; compares replays with Go's own channels; and builds and tries the C library.
 # The last line counts: 'N passed, M failed', and how many were skipped, if any, for what the machine lacks. Before it stands
 # once more what failed.
@@ -55,7 +55,33 @@ checks_capi() {
     make -C "$root/capi" > "$work/capi" 2>&1 && "$root/capi/tests/check.sh" "$program" > "$work/capi" 2>&1
 }
 
+# is_same WORDS..: whether ./chanhub of the tree does what the built program does, but for its own lines on standard error.
+is_same() {
+    "$program" "$@" < "$tree/given" > "$tree/wanted" 2> "$tree/errors"
+    wanted=$?
+    "$tree/chanhub" "$@" < "$tree/given" > "$tree/told" 2> "$tree/said"
+    [ $? -eq $wanted ] && cmp "$tree/wanted" "$tree/told" && [ "$(grep -c '^chanhub: from sources.*, not proved: ' "$tree/said")" = 1 ] &&
+        sed '/^chanhub: from sources/d; /^\.\/chanhub: /d' "$tree/said" | cmp - "$tree/errors"
+}
+
+# checks_sources: whether programs that are not built answer from the sources as the built ones do.
+checks_sources() {
+    tree="$work/a tree"
+    mkdir "$tree"
+    tar -C "$root" --exclude=out -cf - chanhub crates crates.txt examples tools | tar -C "$tree" -xf - || return
+    cp "$root/examples/journals/pipeline" "$tree/given"
+    cd "$tree/examples" || return
+    for report in scenarios/*.stdout; do
+        is_same run "${report%.stdout}" || return
+    done
+    is_same replay && is_same verify journals/pipeline journals/pipeline.stdout && is_same verify journals/pipeline scenarios/ring &&
+        is_same run missing && is_same run README.md && is_same run --journal &&
+        [ "$(TMPDIR=$tree OPENER=: "$tree/tools/explain.sh" --every philosophers | head -n 1)" = 'stall after 10 steps' ]
+}
+
 # These take longest, and go on beside the others.
+checks_sources > "$work/sources" 2>&1 &
+sources=$!
 checks_capi &
 capi=$!
 "$root/tools/refusals.sh" "$program" > "$work/refusals" 2>&1 &
@@ -259,6 +285,9 @@ wait "$live_refusals"
 count $? "refused allocations of the live hub: $(cat "$work/live_refusals")"
 wait "$hub_refusals"
 count $? "refused allocations of a hub: $(cat "$work/hub_refusals")"
+
+wait "$sources"
+count $? "what is not built: $(cat "$work/sources")"
 
 wait "$instructions"
 status=$?

@@ -177,19 +177,19 @@ class Fault(Exception):
 
 
 class Diverged(Fault):
-    """Raised by a call where the journal that the hub follows has another step.
+    """Raised by a call where the journal that the hub follows has another step. It says which: `P2 asked send 2 3, step 17 is 2 send 2 2`.
 
     `step` is the number of that step, from 1, as stories and pictures number them. It is the next one of the process that called; if the
     journal has ended, it is the one behind its last. If the hub ends then, all its calls raise this with the same number.
     """
 
-    def __init__(self, step: int) -> None:
+    def __init__(self, step: int, words: str = '') -> None:
         super().__init__(DIVERGED)
-        self.args = step,
+        self.args = step, words
         self.step = step
 
     def __str__(self) -> str:
-        return f'the journal that the hub follows has another step here: step {self.step}'
+        return self.args[1] or f'{FAULTS[DIVERGED]}: step {self.step}'
 
 
 class Send(NamedTuple):
@@ -283,6 +283,7 @@ def _library() -> ctypes.CDLL:
             ('look', _Counts, [hub, number]),
             ('journal', hub, [hub, size]),
             ('before', hub, [hub, size]),
+            ('divergence', hub, [hub, size]),
             ('free_text', None, [hub]),
             ('write_chapter', None, [ctypes.c_void_p, ctypes.c_char_p, ctypes.c_size_t])):
         function = getattr(library, 'chanhub_' + name)
@@ -359,6 +360,7 @@ def _case(port: int, *value: Sendable) -> bytes:
 
 # A call: its answer, once there is one, whether it is a select, and the numbers of the objects that it sends, by case.
 _Call = Tuple[List[_Told], bool, Dict[int, int]]
+_NO_CALL: _Call = [], False, {}
 
 
 class _Calls:
@@ -406,18 +408,21 @@ class _Calls:
                 numbers[index], things[number] = number, case[1]
                 case = case[0], number
             packed += _case(*case)
-        self._begin(pid, ([], is_select, numbers), things, _begin_until if deadline else _begin,
+        self._ask(pid, ([], is_select, numbers), things, _begin_until if deadline else _begin,
                     (self._hub, pid, packed, len(cases), default, word, *deadline))
 
     def ask_other(self, pid: int, name: str, number: int) -> None:
-        self._begin(pid, ([], False, {}), {}, getattr(_LIBRARY, 'chanhub_' + name), (self._hub, pid, number))
+        self._ask(pid, ([], False, {}), {}, getattr(_LIBRARY, 'chanhub_' + name), (self._hub, pid, number))
 
     def told(self, pid: int) -> Optional[Tuple[int, int, int, int]]:
-        answer = self._calls.get(pid, ((),))[0]
-        return tuple((told.what, told.fault, told.index, told.port or told.number) for told in answer)[0] if answer else None
+        answer = self._calls.get(pid, _NO_CALL)[0]
+        if not answer:
+            return None
+        told = answer[0]
+        return told.what, told.fault, told.index, told.port or told.number
 
     def wait(self, pid: int, nanoseconds: int) -> bool:
-        answer = self._calls.get(pid, ((),))[0]
+        answer = self._calls.get(pid, _NO_CALL)[0]
         if pid in self._awaited:
             return False
         if answer and answer[0].what == WAITING:
@@ -428,12 +433,11 @@ class _Calls:
                 del self._awaited[pid]
         return True
 
-    def _begin(self, pid: int, call: _Call, things: Dict[int, Any], function: Callable[..., _Told], asked: Tuple[Any, ...]) -> None:
+    def _ask(self, pid: int, call: _Call, things: Dict[int, Any], function: Callable[..., _Told], asked: Tuple[Any, ...]) -> None:
         if pid in self._calls:
             raise Fault(BUSY)
-        answer, unsent, put = call[0], (), 0
-        if things:
-            unsent, put = map(self._things.pop, things, repeat(None)), len(things)
+        answer, put = call[0], len(things)
+        unsent = map(self._things.pop, things, repeat(None)) if things else ()
         self._calls[pid] = call
         try:
             if things:
@@ -854,7 +858,7 @@ class Hub:
             raise RuntimeError('the hub belongs to the process that opened it, not to a forked child')
         return self._handle
 
-    def _callable(self) -> _Calls:
+    def _caller(self) -> _Calls:
         """Returns what makes new calls. Raises HubEnded once the hub has ended."""
         if self._live is None:
             self._owned()
@@ -864,7 +868,7 @@ class Hub:
     @property
     def handle(self) -> ctypes.c_void_p:
         """The C library's pointer to the hub, for a new call. Raises HubEnded once the hub has ended."""
-        self._callable()
+        self._caller()
         return self._handle
 
     def seat(self, pid: int) -> Seat:
@@ -940,7 +944,7 @@ class Hub:
     def _error(self, pid: int, what: int, fault: int, index: int, number: int) -> Exception:
         """Returns the exception for this answer. A stall that another process was told before the hub ended was none of the end."""
         if fault == DIVERGED:
-            return Diverged(number)
+            return Diverged(number, (self._text(_LIBRARY.chanhub_divergence) or b'').decode())
         if self._live is None and (fault == GONE or what == TIMED_OUT or what == STALLED and self._stalls[pid] >= self._seen_stalls):
             return HubEnded()
         return Fault(fault) if what == FAULT else _ENDED[what](index)
@@ -1048,11 +1052,12 @@ class Seat:
                 raise Fault(NOT_PARKED)
             if not hub._calls.wait(self.pid, 0):
                 raise Fault(BUSY)
-        return self._result()
+        result: Union[None, Value, Fired] = self._result()
+        return result
 
     def make(self, cap: int) -> Port:
         """Makes a channel that buffers up to `cap` values, 0 to 1,024, and returns its port. Ports are numbered from 1."""
-        calls = self.hub._callable()
+        calls = self.hub._caller()
         calls.ask_other(self.pid, 'make', _within('capacity', cap, 2 ** 32 - 1))
         port = Port(self._told()[-1], self)
         del calls[self.pid]
@@ -1074,7 +1079,7 @@ class Seat:
         if timeout is not None:
             self._call(((port, value),), timeout)
             return
-        calls = self.hub._live or self.hub._callable()
+        calls = self.hub._live or self.hub._caller()
         if calls[self.pid, port, value] is calls:
             self._result()
 
@@ -1082,7 +1087,7 @@ class Seat:
         """Receives a value and returns it. Waits until there is one. With a timeout, as `send`."""
         if timeout is not None:
             return self._call(((port,),), timeout)
-        calls = self.hub._live or self.hub._callable()
+        calls = self.hub._live or self.hub._caller()
         got = calls[self.pid, port]
         return self._result() if got is calls else got
 
@@ -1108,7 +1113,7 @@ class Seat:
 
     def close(self, port: int) -> None:
         """Closes a port. Waiting sends raise Closed, and waiting receives raise Drained."""
-        self.hub._callable().ask_other(self.pid, 'close', _within('port', port, 65535))
+        self.hub._caller().ask_other(self.pid, 'close', _within('port', port, 65535))
         self._result()
 
     def exit(self) -> None:
@@ -1131,14 +1136,14 @@ class Seat:
 
         Requires edition 2; in edition 1 it raises Fault 13.
         """
-        self.hub._callable().ask_other(self.pid, 'cancel', _within('process', other, 255))
+        self.hub._caller().ask_other(self.pid, 'cancel', _within('process', other, 255))
         self._result()
 
     def _call(self, cases: Tuple[Tuple[Any, ...], ...], timeout: Optional[float], is_select: bool = False, default: bool = False,
               word: int = 0) -> Any:
         """Makes a call of these cases, and returns its result."""
         deadline = () if timeout is None else (self._deadline(timeout),)
-        self.hub._callable().ask(self.pid, cases, is_select, default, word, *deadline)
+        self.hub._caller().ask(self.pid, cases, is_select, default, word, *deadline)
         return self._result()
 
     def _deadline(self, timeout: float) -> int:
@@ -1159,7 +1164,7 @@ class Seat:
         waits in short slices, so that it can be interrupted: then the call stays open."""
         hub, pid, calls = self.hub, self.pid, self.hub._calls
         hub._attend()
-        told = calls.told(pid)
+        told: Tuple[int, int, int, int] = calls.told(pid)
         while told[0] == WAITING:
             calls.wait(pid, _SLICE if get_ident() == _main else _FOR_EVER)
             told = calls.told(pid)
@@ -1195,7 +1200,8 @@ class Port(int):
     and `async for value in port` receives until the end. Each process has one such thread, named chanhub-process-PID, which makes its
     calls one after the other. So give each task that waits a process of its own. The process counts as waiting as long as its call
     waits. While the task does something else, the process is outside the hub, and no deadlock is reported. End the hub by a `with`
-    block, which ends the calls that wait: the interpreter waits for them when it exits.
+    block, which ends the calls that wait: the interpreter waits for them when it exits. In a hub that follows a journal, any call waits
+    for its turn: make the others, such as `close`, by asyncio.to_thread, so that they do not hold up the loop.
     """
 
     seat: Seat

@@ -2,6 +2,7 @@
 import asyncio
 import importlib.util
 import os
+import pickle
 import random
 import signal
 import subprocess
@@ -60,7 +61,8 @@ class Following(unittest.TestCase):
         zero.close(port)
         self.assertEqual(hub.journal(), JOURNAL)
         self.diverges(5, one.recv, 1)
-        self.diverges(5, zero.exit)
+        with self.assertRaisesRegex(Diverged, '^P1 asked recv 1, the journal ends with step 4$'):
+            zero.exit()
         self.assertEqual(hub.journal(), JOURNAL)
 
     def test_divergence_ends_the_hub(self):
@@ -75,7 +77,9 @@ class Following(unittest.TestCase):
         with self.assertRaises(Fault) as raised:
             one.recv(1)
         self.assertEqual(raised.exception.number, 14)
-        self.assertEqual(str(raised.exception), 'the journal that the hub follows has another step here: step 3')
+        self.assertEqual(str(raised.exception), 'P0 asked send 1 8, step 3 is 0 send 1 9')
+        self.assertEqual(repr(pickle.loads(pickle.dumps(raised.exception))), repr(raised.exception))
+        self.assertEqual(str(Diverged(3)), 'the journal that the hub follows has another step here: step 3')
 
     def test_hub_that_goes_on(self):
         with Hub.follow(JOURNAL, goes_on=True) as hub:
@@ -250,7 +254,8 @@ class Following(unittest.TestCase):
         with Hub.follow(JOURNAL) as hub:
             waits = self.in_thread(lambda: hub.seat(1).recv(1))
             self.assertEqual(hub.look(1), None)
-        self.diverges(1, waits)
+        with self.assertRaisesRegex(Diverged, '^stopped before step 1, which is 0 make 0$'):
+            waits()
 
     def test_interrupt_of_a_turn(self):
         hub = Hub.follow(JOURNAL)

@@ -249,7 +249,7 @@ pub extern "C" fn hub_c_step_of(alloc: Global, hub: &mut HubC, pid: u8) -> NextC
 }
 
 /// The number of the clock's process in the journal that the hub follows: of the process that waits on port 0 while no call has a
-/// deadline, and cancels calls whose deadlines have passed. `NO_CLOCK`, 64, if that has none, and for a hub that follows none.
+/// deadline, and cancels calls whose deadlines have passed. `NO_CLOCK` if that has none, and for a hub that follows none.
 #[unsafe(no_mangle)]
 pub extern "C" fn hub_c_clock(alloc: Global, hub: &mut HubC) -> u8
     ensures clock { result ≡ clock_number hub.old.session }

@@ -233,7 +233,8 @@ keeps_taken l q keeps =
 
 -- what a hub keeps at which nothing has happened
 pub keeps_opened : (after : AfterDivergence) (given : HubView) (locked : LockedView) → IsLegal given.terms.head given.journal
-    → AreOf given.terms.head.edition given.journal → steps_of given.journal ≤ given.terms.limit → length given.journal ≤ MOST_BYTES → locked ≡ none_waits (opened_hub given.terms)
+    → AreOf given.terms.head.edition given.journal → steps_of given.journal ≤ given.terms.limit
+    → length given.journal ≤ MOST_BYTES → locked ≡ none_waits (opened_hub given.terms)
     → FollowKeeps (follow_view locked given.journal after None None)
 keeps_opened after given locked legal fits room few is =
     subst (λ (l : LockedView). FollowKeeps (follow_view l given.journal after None None)) (sym is)
@@ -241,7 +242,8 @@ keeps_opened after given locked legal fits room few is =
 
 -- what is told of it
 pub opened : (text : List ℕ) (after : AfterDivergence) (given : HubView) (l : FollowView) → MakesText text given
-    → l.locked ≡ none_waits (opened_hub given.terms) → l.given ≡ given.journal → l.after ≡ after → l.diverged ≡ None → l.asked ≡ None → FollowsAnew text after l
+    → l.locked ≡ none_waits (opened_hub given.terms) → l.given ≡ given.journal → l.after ≡ after
+    → l.diverged ≡ None → l.asked ≡ None → FollowsAnew text after l
 opened text after given l makes is same after_is none unasked =
     let terms : l.locked.hub.terms ≡ given.terms = ap (λ (k : LockedView). k.hub.terms) is in
     record {

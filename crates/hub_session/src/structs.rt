@@ -2,7 +2,7 @@
 //!
 //! What comes from C may be any bytes, so a truth that comes is a number: 0 is false, and every other one is true.
 
-use hub_base::MOST_VALUE_BYTES;
+use hub_base::{MOST_PROCS, MOST_VALUE_BYTES};
 
 /// A port was made.
 pub const MADE: u8 = 1;
@@ -57,7 +57,7 @@ pub const STEP_EXIT: u8 = 7;
 pub const STEP_CANCEL: u8 = 8;
 
 /// A journal has no clock: the number of no process.
-pub const NO_CLOCK: u8 = 64;
+pub const NO_CLOCK: u8 = MOST_PROCS as u8;
 
 /// There is no such piece of a text: the last one stands before it.
 pub const NO_PIECE: u8 = 0;

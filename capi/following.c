@@ -122,6 +122,7 @@ uint64_t pass_turn(chanhub *h, const struct told *t) {
     else if (t->it.fault == CHANHUB_DIVERGED) end_at(h, t->it.value.number);
     uint64_t next = hub_c_next(&h->hub);
     if (!next && h->goes_on && h->state == FOLLOWS) go_on(h);
+    if (next) h->places[__builtin_ctzll(next)].turns++;
     return next ? next : EVERYBODY;
 }
 
@@ -143,14 +144,19 @@ bool is_for_another_try(chanhub *h, unsigned pid, struct told *t) {
     return true;
 }
 
+/* Whether another call of this process would have to wait: if one is open, it would be refused. */
+static bool would_wait(chanhub *h, unsigned pid) {
+    return !(h->open & only(pid)) && (first_before(h, pid) || is_behind(h, pid, ANY_STEP));
+}
+
 bool chanhub_turn(chanhub *h, unsigned pid, uint64_t nanoseconds) {
     if (is_bad(h, pid, 0) || !only(pid)) return true;
+    struct place *mine = &h->places[pid];
     uint64_t end = chanhub_in(nanoseconds);
     bool has_time = true, waits;
     take_lock(h);
-    while ((waits = first_before(h, pid) || is_behind(h, pid, ANY_STEP)) && has_time) {
-        has_time = sleep_until(h, &h->places[pid], end);
-    }
+    uint32_t turns = mine->turns;
+    while ((waits = mine->turns == turns && would_wait(h, pid)) && has_time) has_time = sleep_until(h, mine, end);
     leave_lock(h);
     return !waits;
 }

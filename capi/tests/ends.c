@@ -97,7 +97,6 @@ static void others_wait(void) {
     usleep(20000);
     is_fault("it is in a call", chanhub_make(hub, 1, 0), CHANHUB_BUSY);
     make(0, 1);
-    is("not its turn", chanhub_turn(hub, 1, MILLISECOND), 0);
     is("made here", chanhub_ends_gone(hub, 1) && is_closed(1), 1);
     pthread_join(thread, NULL);
     is("its turn", chanhub_turn(hub, 0, CHANHUB_NEVER), 1);
@@ -116,6 +115,7 @@ static void others_wait(void) {
     chanhub_closes_with_ends(hub, 1);
     make(0, 1);
     is_fault("behind the close", chanhub_exit(hub, 1), CHANHUB_NOT_YET);
+    is("not its turn", chanhub_turn(hub, 1, MILLISECOND), 0);
     is("made here", chanhub_ends_gone(hub, 1) && chanhub_turn(hub, 1, 0), 1);
     is("exit", chanhub_exit(hub, 1).what, CHANHUB_DONE);
     chanhub_free(hub);

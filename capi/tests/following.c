@@ -237,14 +237,21 @@ static void *receives(void *hub) {
 
 static void turns_beside_calls(void) {
     enum { ROUNDS = 20 };
+    pthread_t thread;
     chanhub *hub = follows(JOURNAL, false);
     is("no process", chanhub_turn(hub, 64, CHANHUB_NEVER) && chanhub_turn(hub, 255, CHANHUB_NEVER), 1);
+    pthread_create(&thread, NULL, receives, hub);
+    while (chanhub_resume(hub, 1, 0).fault != CHANHUB_BUSY) usleep(100);
+    is("it would be busy", chanhub_turn(hub, 1, CHANHUB_NEVER), 1);
+    is("made", chanhub_make(hub, 0, 0).port, 1);
+    is("sent", chanhub_send(hub, 0, 1, chanhub_number(9)).what, CHANHUB_SENT);
+    pthread_join(thread, NULL);
     chanhub_free(hub);
     for (int i = 0; i < ROUNDS; i++) {
         pthread_t threads[3];
         hub = follows(JOURNAL, false);
         for (int j = 0; j < 3; j++) pthread_create(&threads[j], NULL, j == i % 3 ? receives : turn, hub);
-        is("not yet", chanhub_turn(hub, 1, 300000), 0);
+        usleep(300);
         is("made", chanhub_make(hub, 0, 0).port, 1);
         is("sent", chanhub_send(hub, 0, 1, chanhub_number(9)).what, CHANHUB_SENT);
         is("closed", chanhub_close(hub, 0, 1).what, CHANHUB_DONE);

@@ -26,11 +26,11 @@ chanhub_told finish_by_waking(chanhub *h, uint8_t pid, const struct told *t, uin
     if (has_parked) h->open |= only(pid);
     uint64_t woken = note_step(h, t);
     bool claimed = claims_chapter(h, t->chapter);
-    if (has_parked || claimed || is_clock_due(h)) {
+    if (has_parked || claimed || is_due(h)) {
         wake(h, woken);
         woken = 0;
         if (claimed) hand_out(h, pid);
-        if (is_clock_due(h)) settle_clock(h, pid);
+        if (is_due(h)) settle(h, pid);
     }
     chanhub_told answer = has_parked ? wait_for(h, pid, nanoseconds) : t->it;
     leave_lock(h);

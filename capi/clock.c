@@ -9,13 +9,13 @@
  * whether it is due.
  *
  * If the clock's steps are next in the journal that the hub follows, the thread that made the step before makes them too, before
- * it lets go of the lock. So nobody ever waits for the clock. No deadline is looked at until the hub no longer follows.
+ * it lets go of the lock. So nobody ever waits for the clock. No deadline is looked at until all of the journal is made.
  */
 #include "hub.h"
 
 /* Sets whose calls look closer before they begin. Holds the lock. */
-void look_closer_at(chanhub *h) {
-    h->watched = h->clock_is == AWAKE || h->state ? EVERYBODY : only(h->clock);
+void set_closer(chanhub *h) {
+    h->closer = h->clock_is == AWAKE || h->state ? EVERYBODY : only(h->clock);
 }
 
 /* Notes what the clock is at. Holds the lock. Where the clock waits, no call that waits has a deadline that counts: otherwise
@@ -23,7 +23,7 @@ void look_closer_at(chanhub *h) {
 void set_clock(chanhub *h, enum clock clock_is) {
     h->clock_is = clock_is;
     if (clock_is != AWAKE) h->timed = 0;
-    look_closer_at(h);
+    set_closer(h);
 }
 
 /* Does what follows from a step that was made within a call of this process: wakes those whose calls it ended, and hands out the
@@ -70,8 +70,8 @@ static void step_again(chanhub *h, struct told *t) {
 
 /* Makes the library's steps that are due, within a call of this process: more than one if the clock's wait brings a stall. If one is
  * refused memory, it is still due afterwards; a hub that follows a journal ends, since other threads may wait for that step. */
-void settle_clock(chanhub *h, unsigned pid) {
-    while (is_clock_due(h)) {
+void settle(chanhub *h, unsigned pid) {
+    while (is_due(h)) {
         struct told t = { 0 };
         if (h->state) step_again(h, &t);
         else step_clock_freely(h, &t);
@@ -96,15 +96,15 @@ uint64_t steps_left(chanhub *h) {
 uint8_t refusal_by_clock(chanhub *h, unsigned pid, bool exits) {
     if (pid == h->clock) return CHANHUB_NO_PROCESS;
     if (h->state) return 0;
-    settle_clock(h, pid);
+    settle(h, pid);
     if (exits) {
         struct told t = { 0 };
-        if (!is_clock_due(h)) return 0;
+        if (!is_due(h)) return 0;
         exit_clock(h, &t);
         follow_up(h, pid, &t);
         return 0;
     }
-    if (is_clock_due(h)) return CHANHUB_NO_MEMORY;
+    if (is_due(h)) return CHANHUB_NO_MEMORY;
     return steps_left(h) ? 0 : CHANHUB_JOURNAL_FULL;
 }
 

@@ -61,7 +61,7 @@ chanhub_told time_out(chanhub *h, unsigned pid) {
         bool is_refused = t.it.what != CHANHUB_DONE && t.it.fault != CHANHUB_DIVERGED;
         if (is_refused) return (chanhub_told){ .what = CHANHUB_WAITING, .fault = t.it.fault };
         follow_up(h, pid, &t);
-        settle_clock(h, pid);
+        settle(h, pid);
     }
     return pick_up(h, pid);
 }
@@ -98,11 +98,12 @@ static chanhub_told select_until(chanhub *h, unsigned pid, const chanhub_case *c
     uint8_t why = enter(h, pid, ANY_STEP);
     if (why) return refused(h, why);
     struct told t = { 0 };
-    bool waits, followed;
+    bool waits;
+    enum state state;
     h->places[pid].deadline = deadline;
     if (h->state == FOLLOWS && wakes_clock_next(h, pid)) return wait_with_deadline(h, pid, cases, count, word, nanoseconds);
     do {
-        followed = h->state == FOLLOWS;
+        state = h->state;
         waits = waits_untried(h, pid);
         if (waits) h->timed |= only(pid);
         else h->timed &= ~only(pid);
@@ -111,7 +112,7 @@ static chanhub_told select_until(chanhub *h, unsigned pid, const chanhub_case *c
     show_fired(h, cases, count, &t);
     if (waits) return finish_timed(h, pid, &t, nanoseconds);
     if (t.it.what == CHANHUB_DEFAULT) {
-        if (waits_when_tried(h, pid, followed)) {
+        if (waits_when_tried(h, pid, state == FOLLOWS)) {
             follow_up(h, pid, &t);
             return wait_with_deadline(h, pid, cases, count, word, nanoseconds);
         }

@@ -1,9 +1,13 @@
 /* Turns in the journal that a hub follows. All functions here hold the lock, but not while they wait; chanhub_turn and
- * chanhub_stop take it first.
+ * what stands behind it take it first.
  *
  * A hub that follows a journal makes a step only in its turn. A call whose turn has not come waits at its place. After each step
  * the thread that made it wakes the process whose step is next; once there is none, since the hub has diverged or all is made,
  * it wakes all. If the hub ends then, each call is told so, also those that wait for an answer.
+ *
+ * The journal has each close of a port by the process that made it when the port's last end was dropped; now another thread may drop
+ * last, sooner or later. So the library makes this close as that process, in its turn, once all ends are gone and no call of the
+ * process is in the hub. Until then the process's other calls wait.
  */
 #include "hub.h"
 
@@ -31,9 +35,7 @@ void end_at(chanhub *h, uint64_t number) {
     wake(h, EVERYBODY);
 }
 
-/* ---- Ends that are gone. The journal has each close of a port by the process that made it when its last end went; now the last
- * may go elsewhere, sooner or later. So the library makes this close as that process, in its turn, once all ends are gone and no
- * call of the process is in the hub. Until then the process's other calls wait. ---- */
+/* ---- Ends that are gone. ---- */
 
 /* Whether the close of this port may be one for its ends: that was said, or the port's maker may be about to say so. */
 static bool may_be_for_ends(chanhub *h, unsigned port) {
@@ -100,7 +102,7 @@ static bool close_freely(chanhub *h, unsigned port) {
 
 /* Makes the closes that are due for ends that are gone, within a call of this process. */
 void close_gone(chanhub *h, unsigned pid) {
-    if (h->state == FOLLOWS) settle_clock(h, pid);
+    if (h->state == FOLLOWS) settle(h, pid);
     for (unsigned port = 1; port <= MOST_PORTS && h->state == FREE; port++) {
         if (h->gone & only_port(port) && close_freely(h, port)) h->gone &= ~only_port(port);
     }
@@ -111,9 +113,11 @@ static void go_on(chanhub *h) {
     h->state = FREE;
     h->foresees = false;
     h->with_ends = 0;
-    look_closer_at(h);
+    set_closer(h);
     close_gone(h, NOBODY);
 }
+
+/* ---- Turns. ---- */
 
 /* Sees to what follows from a call that came to this. Returns whom to wake: the process whose step is next, or all if there is
  * none. Then a hub that goes on no longer follows; otherwise the deadlines of calls that wait end it. */
@@ -177,7 +181,7 @@ bool chanhub_ends_gone(chanhub *h, unsigned port) {
     bool is_ours = next_in_turn(h) && h->with_ends & only_port(port);
     if (is_ours) {
         h->gone |= only_port(port);
-        if (is_clock_due(h)) settle_clock(h, NOBODY);
+        if (is_due(h)) settle(h, NOBODY);
     }
     leave_lock(h);
     return is_ours;

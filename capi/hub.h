@@ -95,10 +95,10 @@ struct place {
     pthread_cond_t answered;
     uint64_t deadline; /* of the call, if it is in `timed` */
     atomic_uint_least64_t told; /* when it was woken since it was cleared, in ticks; 0 if it was not; read without the lock */
-    uint8_t late;               /* how many times running its answer came later than a look would have seen */
-    uint8_t sleeps;             /* how many times it sleeps at once before it looks again */
     uint32_t turns;             /* how many times its process's turn came, in a hub that follows a journal */
     uint16_t made;              /* the port that its process's last call made, in a hub that follows a journal; 0 if it made none */
+    uint8_t late;               /* how many times running its answer came later than a look would have seen */
+    uint8_t sleeps;             /* how many times it sleeps at once before it looks again */
 };
 
 /* What looks at one port see without the lock. */
@@ -123,7 +123,7 @@ struct chanhub {
     uint64_t awaited;           /* for whose answer a thread waits now */
     uint64_t timed;             /* whose call with a deadline waits in the hub, or is about to; nobody's while the clock waits */
     uint64_t timed_out;         /* whose call the clock cancelled; its answer is not picked up */
-    uint64_t watched;           /* whose calls look closer first: all while the clock is awake, or it is not free; and the clock's */
+    uint64_t closer;            /* whose calls look closer first: all while the clock is awake, or it is not free; and the clock's */
     uint8_t clock;              /* the number of the clock; NOBODY where there is none */
     enum clock clock_is;
     atomic_uint sleepers;       /* how many threads sleep for the lock */
@@ -201,11 +201,11 @@ uint8_t look_closer(chanhub *h, unsigned pid, int step);
 chanhub_told finish_by_waking(chanhub *h, uint8_t pid, const struct told *t, uint64_t nanoseconds);
 
 /* clock.c */
-void look_closer_at(chanhub *h);
+void set_closer(chanhub *h);
 void set_clock(chanhub *h, enum clock clock_is);
 void follow_up(chanhub *h, unsigned pid, const struct told *t);
 void cancel_by_clock(chanhub *h, unsigned pid, struct told *t);
-void settle_clock(chanhub *h, unsigned pid);
+void settle(chanhub *h, unsigned pid);
 uint64_t steps_left(chanhub *h);
 uint8_t refusal_by_clock(chanhub *h, unsigned pid, bool exits);
 
@@ -301,7 +301,7 @@ enum { EXIT = -1, ANY_STEP = 0 };
 
 static inline uint8_t enter(chanhub *h, unsigned pid, int step) {
     take_lock(h);
-    return (h->open | h->watched) & only(pid) ? look_closer(h, pid, step) : 0;
+    return (h->open | h->closer) & only(pid) ? look_closer(h, pid, step) : 0;
 }
 
 /* Whether the step that came to this is to be made again, since its turn had not come, or there was no room for another chapter.
@@ -333,7 +333,7 @@ static inline bool claims_chapter(chanhub *h, bool chapter) {
 }
 
 /* Whether the library is to make a step: the clock is to wait or to exit, or the journal has such a step. Holds the lock. */
-static inline bool is_clock_due(chanhub *h) {
+static inline bool is_due(chanhub *h) {
     return h->state ? is_ours_next(h) : h->clock_is == AWAKE && !h->timed;
 }
 

@@ -101,7 +101,7 @@ static int open_following(chanhub **hub, const chanhub_options *o) {
     if (!why && clock != NOBODY) why = start_clock(hub, clock);
     if (why) return why;
     (*hub)->state = o->goes_on && !hub_c_next(&(*hub)->hub) ? FREE : FOLLOWS;
-    look_closer_at(*hub);
+    set_closer(*hub);
     return 0;
 }
 

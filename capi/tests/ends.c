@@ -94,7 +94,7 @@ static void others_wait(void) {
     pthread_t thread;
     open_with_ends(HEAD "0 make 0\n1 close 1\n1 exit\n0 exit\n", false);
     pthread_create(&thread, NULL, exits, NULL);
-    usleep(20000);
+    while (chanhub_resume(hub, 1, 0).fault != CHANHUB_BUSY) usleep(100);
     is_fault("it is in a call", chanhub_make(hub, 1, 0), CHANHUB_BUSY);
     make(0, 1);
     is("made here", chanhub_ends_gone(hub, 1) && is_closed(1), 1);

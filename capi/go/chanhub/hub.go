@@ -18,14 +18,8 @@
 // last call of a process: before its goroutine returns, and before a wait that only other processes can end, such as that of a
 // WaitGroup.
 //
-// If a program hangs, any goroutine can write the journal, since Journal needs no seat. Its picture shows the calls that still wait:
-//
-//	watchdog := time.AfterFunc(time.Minute, func() {
-//		if journal, err := hub.Journal(); err == nil { // it fails once the hub is closed
-//			os.WriteFile("hung.journal", journal, 0o666)
-//		}
-//	})
-//	defer watchdog.Stop()
+// If a program hangs, run it with CHANHUB_WATCH=60:hung.journal in its environment. If nothing moves in a hub for 60 seconds while a
+// call waits there, the library writes its journal to that file. The picture shows the calls that still wait.
 //
 // # Deadlocks in tests
 //

@@ -258,7 +258,9 @@ class Following(unittest.TestCase):
             waits()
 
     def test_interrupt_of_a_turn(self):
-        hub = Hub.follow(JOURNAL)
+        hub = Hub.follow(JOURNAL.replace(b' 9', b' 100'), objects=True)
+        zero, one = hub.seat(0), hub.seat(1)
+        port = zero.make(0)
 
         class Interrupted(Exception):
             pass
@@ -269,15 +271,15 @@ class Following(unittest.TestCase):
         try:
             signal.setitimer(signal.ITIMER_REAL, 0.2)
             with self.assertRaises(Interrupted):
-                hub.seat(1).recv(1)
+                zero.send(port, 'object')
         finally:
             signal.setitimer(signal.ITIMER_REAL, 0)
             signal.signal(signal.SIGALRM, before)
-        # Nothing is open.
-        received = self.in_thread(lambda: hub.seat(1).recv(1))
-        port = hub.seat(0).make(0)
-        hub.seat(0).send(port, 9)
-        self.assertEqual(received(), 9)
+        # Nothing is open, and nothing was put.
+        self.assertEqual((zero.waits, hub._things), (False, {}))
+        received = self.in_thread(lambda: one.recv(1))
+        zero.send(port, 'object')
+        self.assertEqual(received(), 'object')
 
 
 TEST = '''

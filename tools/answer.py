@@ -11,9 +11,9 @@ import _signal as signal
 SIGNALS = (signal.SIGHUP, signal.SIGINT, signal.SIGQUIT, signal.SIGTERM)
 # The words that a command may have, beside options.
 COMMANDS = {'replay': (), 'run': ('FILE',), 'verify': ('JOURNAL', 'EVENTS')}
+BEGINNING = 'chanhub: '
 # the commands of chanhub_tool, which ../chanhub runs too
 OF_TOOL = ('story', 'picture', 'mermaid', 'trace', 'page', 'serve', 'chain', 'explore')
-BEGINNING = 'chanhub: '
 MARKS = {b'\xef\xbb\xbf': 'UTF-8', b'\xff\xfe': 'UTF-16', b'\xfe\xff': 'UTF-16'}
 WANTED = {
     'bad header': 'a journal begins with `chanhub journal 1` or `chanhub journal 2`',
@@ -77,7 +77,7 @@ def wrong_word(words):
     if len(files) > len(wanted):
         return '`%s` is one word too many%s' % (files[len(wanted)], ': replay reads standard input, as by < JOURNAL' if command == 'replay' else '')
     if command == 'verify' and len(files) < len(wanted):
-        return '%s is missing' % ' and '.join(wanted[len(files):])
+        return 'verify lacks %s' % ' and '.join(wanted[len(files):])
     return ''
 
 
@@ -115,9 +115,10 @@ def wrong_line(text, number, fault):
             return 'line 1 begins with a byte-order mark of %s, and a journal has none' % name
     if line.endswith(b'\r'):
         return 'line %d ends with a carriage return (CRLF), and a journal has newlines alone' % number
+    wanted = WANTED.get(fault, fault)
     if has_newline:
-        return 'line %d is %s: %s' % (number, shown(line), WANTED[fault])
-    return 'line %d, the last, has no newline behind it' % number if line else 'the journal ends before line %d: %s' % (number, WANTED[fault])
+        return 'line %d is %s: %s' % (number, shown(line), wanted)
+    return 'line %d, the last, has no newline behind it' % number if line else 'the journal ends before line %d: %s' % (number, wanted)
 
 
 def wrong_place(text, name):
@@ -142,7 +143,7 @@ def unread(names):
             else:
                 open(name, 'rb').read(1)
         except OSError as error:
-            return '%s: %s' % (name or 'standard input', error.strerror)
+            return '%s: %s' % ('standard input' if name is None else name, error.strerror)
     return ''
 
 
@@ -151,7 +152,10 @@ def unwritten(words):
     for option, name in zip(words, words[1:]):
         if option in ('-o', '--output') or option == '--journal' and words[0] == 'explore':
             return name
-    place = os.readlink('/proc/self/fd/1')
+    try:
+        place = os.readlink('/proc/self/fd/1')
+    except OSError:
+        place = 'which is closed'
     return 'standard output, %s' % ('which nobody reads' if place.startswith('pipe:') else place)
 
 
@@ -174,8 +178,7 @@ def help_for(fault, words):
     if fault.startswith('scenario: ') and not fault.endswith('out of memory'):
         return help_of_text(wrong_place, names[0], names[0])
     if fault == 'bad arguments':
-        wrong = '' if words and words[0] in OF_TOOL else wrong_word(words)
-        return '%s (./chanhub --help)' % wrong if wrong else './chanhub %s --help tells what it takes' % words[0]
+        return './chanhub %s --help tells what it takes' % words[0] if words and words[0] in OF_TOOL else '%s (./chanhub --help)' % wrong_word(words)
     if fault == 'read failed':
         return unread(names)
     if fault == 'write failed':
@@ -184,9 +187,9 @@ def help_for(fault, words):
 
 
 def more(said, words):
-    """The line behind a fault line, or nothing."""
+    """The line behind a fault line, or nothing; nothing where the program says more itself."""
     line = said.decode(errors='surrogateescape')
-    helps = help_for(line[len(BEGINNING):-1], words) if line.startswith(BEGINNING) and line.endswith('\n') else ''
+    helps = help_for(line[len(BEGINNING):-1], words) if line.startswith(BEGINNING) and line.find('\n') == len(line) - 1 else ''
     return os.fsencode('./chanhub: %s\n' % helps) if helps else b''
 
 

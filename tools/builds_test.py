@@ -344,6 +344,11 @@ def from_sources(tests, room):
     tests.test('./chanhub builds where rt try makes no program', is_well, (status, told, errors))
     write(os.path.join(room.kit, 'try_status'), '0')
     tests.same('compiling leaves nothing', room.left(), ([], []))
+    forget(room)
+    write(room.path('crates', 'chanhub', 'out'), '')
+    status, told, errors = room.run('./chanhub', 'replay')
+    os.remove(room.path('crates', 'chanhub', 'out'))
+    tests.test('./chanhub says where it cannot keep the program', (status, told) == (125, '') and 'Traceback' not in errors and 'crates/chanhub/out' in errors, errors)
 
 
 def builds_both(tests, room):

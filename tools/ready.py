@@ -127,7 +127,12 @@ def main():
         fault = b'chanhub: bad arguments\n'
         answer.tell(fault + answer.more(fault, words[1:]))
         return 2
-    program = ready(words[0], read_crates())
+    try:
+        program = ready(words[0], read_crates())
+    except OSError as error:
+        # It cannot be kept here.
+        print(f'{words[0]}: {error}', file=sys.stderr)
+        program = None
     if program is None:
         print(f'{words[0]}: not built', file=sys.stderr)
         return 125

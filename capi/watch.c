@@ -75,6 +75,11 @@ static bool start(void) {
     return is_started;
 }
 
+/* A child has no such thread, and nobody there lets go of the lock, if the thread has it. */
+static void forget(void) {
+    file = NULL;
+}
+
 /* Begins to watch, if it is asked for. */
 static void begin(void) {
     const char *asked = secure_getenv("CHANHUB_WATCH");
@@ -83,7 +88,8 @@ static void begin(void) {
     bool has_number = *asked >= '0' && *asked <= '9';
     seconds = strtoull(asked, &end, 10);
     file = end + 1;
-    if (has_number && seconds && seconds <= MOST_SECONDS && *end == ':' && *file && start()) return;
+    bool is_right = has_number && seconds && seconds <= MOST_SECONDS && *end == ':' && *file;
+    if (is_right && pthread_atfork(NULL, NULL, forget) == 0 && start()) return;
     file = NULL;
     fprintf(stderr, "chanhub: CHANHUB_WATCH=%s: there is no watch; SECONDS:FILE asks for one\n", asked);
 }

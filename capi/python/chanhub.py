@@ -740,9 +740,9 @@ class Hub:
     The hub ends when a `with Hub` block ends. Without such a block it ends when it is freed, which it never is if its function refers to
     it. If it has not ended when the interpreter does, `chapters` does not get the chapters that it keeps.
 
-    Memory: a send or a receive takes 16 bytes, and a select or a send of bytes more. Without `keep`, all of them stay until the hub is freed. With `keep`, at most about
-    2 * (keep + 65,792) steps stay, and twice as many while `chapters` gets one; 65,792 is the most that a chapter begins with. If the
-    function is slow, up to one text for each process waits for it.
+    Memory: a send or a receive takes 16 bytes, and a select or a send of bytes more. Without `keep`, all of them stay until the hub is
+    freed. With `keep`, at most about 2 * (keep + 65,792) steps stay, and twice as many while `chapters` gets one; 65,792 is the most
+    that a chapter begins with. If the function is slow, up to one text for each process waits for it.
 
     Raises ValueError if an argument is out of range, if `keep` and `limit` are both given, or if `chapters` is given without `keep`.
     Raises TypeError if `chapters` is neither a path nor a function, and MemoryError if memory runs out.
@@ -774,9 +774,10 @@ class Hub:
         call gets the answer that the journal has, whatever the schedule of the threads is. A process that makes no further step in the
         journal waits until all of it is made.
 
-        A call with another step than the process's next one raises Diverged, and so does a call once all of the journal is made. Then the hub ends: all calls raise Diverged, also those that wait. With `goes_on` it goes on as a hub that
-        follows nothing: the call that raised Diverged was not made, and the other calls are made as they come. Once all of the journal
-        is made, it then makes any call, without an exception.
+        A call with another step than the process's next one raises Diverged, and so does a call once all of the journal is made. Then
+        the hub ends: all calls raise Diverged, also those that wait. With `goes_on` it goes on as a hub that follows nothing: the call
+        that raised Diverged was not made, and the other calls are made as they come. Once all of the journal is made, it then makes any
+        call, without an exception.
 
         A process that never makes its next step holds up all whose turn is later. When a `with Hub` block ends, they raise Diverged.
 

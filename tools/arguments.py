@@ -1,6 +1,6 @@
 #!/usr/bin/env python3
 """arguments.py PROGRAM TOOL: tries words that are no UTF-8 on the built chanhub (PROGRAM) and chanhub_tool (TOOL), beside the words
-that each knows: they are bad arguments, and nothing is read or written for them. The bytes of a program's own name are no
+that each knows: they are bad arguments, and nothing is read or written for them; chanhub_tool says what is wrong. The bytes of a program's own name are no
 argument: under a name that is no UTF-8 it does the same. The last line counts: 'N passed, M failed'."""
 import os
 import pathlib
@@ -35,6 +35,12 @@ REFUSED = {
 }
 
 
+def is_refused(name, answer, more=b""):
+    """Whether bad arguments are told, and behind that by chanhub_tool what is wrong."""
+    said = BAD[2] + (b"chanhub_tool: " + more if name == "chanhub_tool" else b"")
+    return answer[:2] == BAD[:2] and answer[2].startswith(said) and (name == "chanhub_tool" or answer == BAD)
+
+
 def told(program, words):
     done = subprocess.run([program, *words], input=JOURNAL, capture_output=True, timeout=WAIT)
     return done.returncode, done.stdout, done.stderr
@@ -51,16 +57,16 @@ def behind(words):
 def checks(name, program, work):
     for words in ASKED[name]:
         for given in behind(words):
-            yield f"{name} {b' '.join(given)}", told(program, given) == BAD
+            yield f"{name} {b' '.join(given)}", is_refused(name, told(program, given), b"an argument is not UTF-8\n")
     for words in REFUSED[name]:
-        yield f"{name} {b' '.join(words)}", told(program, words) == BAD
+        yield f"{name} {b' '.join(words)}", is_refused(name, told(program, words))
     named = os.path.join(os.fsencode(work), os.fsencode(name) + BYTE)
     os.symlink(program, named)
     for words in SERVED[name]:
         served = told(program, words)
         yield f"{name} {b' '.join(words)}", served[0] == 0 and served[1] != b"" and served[2] == b""
         yield f"{name} {b' '.join(words)} under a name that is no text", told(named, words) == served
-    yield f"{name}, a bad argument under such a name", told(named, [b"x"]) == BAD
+    yield f"{name}, a bad argument under such a name", is_refused(name, told(named, [b"x"]))
 
 
 def main():

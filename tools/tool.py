@@ -4,6 +4,7 @@ standard input and output, those that are refused, chains of chapters, runs of s
 line counts: 'N passed, M failed'."""
 import pathlib
 import re
+import subprocess
 import sys
 
 sys.dont_write_bytecode = True
@@ -16,6 +17,11 @@ JOURNAL = ROWS["journal"].encode()
 
 def failed(fault):
     return 1, b"", f"chanhub: {fault}\n".encode()
+
+
+def saying(answer, more):
+    """The answer with a line more, which says which word or which file is wrong."""
+    return *answer[:2], answer[2] + f"chanhub_tool: {more}\n".encode()
 
 
 class Folder:
@@ -89,12 +95,19 @@ def viewers(program, work):
 def not_written(program, work):
     """Where it fails, nothing is printed, and a file `out` stays as it was."""
     wants = [(refused(fault), words) for fault, several in ROWS["refused"].items() for words in several]
+    wants += [(saying(refused("bad arguments"), wrong), words) for wrong, several in ROWS["wrong"].items() for words in several]
     wants += [(failed("read failed"), words) for words in ROWS["unread"]["words"]]
+    wants += [(saying(failed("read failed"), f"'{name}' cannot be opened"), words) for name, several in ROWS["unopened"].items() for words in several]
     wants += [(failed("write failed"), words) for words in ROWS["unwritten"]["words"]]
     for wanted, words in wants:
         for before in (None, b"kept"):
             folder = Folder(program, work, before)
-            yield f"{wanted[2].decode().strip()}: {' '.join(words)}", folder.run(words) == wanted and folder.left() == before
+            yield f"{wanted[2].decode().strip()}: {' '.join(words)}", is_told(folder.run(words), wanted) and folder.left() == before
+
+
+def is_told(answer, wanted):
+    """Whether this is the answer, or its beginning where it says in a last line which word is wrong."""
+    return answer == wanted or wanted == refused("bad arguments") and answer[:2] == wanted[:2] and answer[2].startswith(wanted[2] + b"chanhub_tool: ")
 
 
 def faulty_journals(program, work):
@@ -177,6 +190,17 @@ def versions(program, work):
         yield " ".join(words), Folder(program, work).run(words, b"") == (0, f"chanhub_tool {version}\n".encode(), b"")
 
 
+def little_stack(program, work):
+    """The stack that its help speaks of is enough."""
+    said = program.run(["--help"])[1]
+    found = re.search(rb"needs (\d+) KB of stack", said)
+    scenario = str(ROOT / "examples" / "philosophers")
+    for words in (["story"], ["picture"], ["mermaid"], ["trace"], ["page"], ["serve"], ["chain", "-"], ["explore", scenario], ["story", "-x"]):
+        limited = ["sh", "-c", 'ulimit -s "$0" && exec "$@"', found[1] if found else "0", program.path, *words]
+        done = subprocess.run(limited, input=JOURNAL, capture_output=True)
+        yield " ".join(words), (done.returncode, done.stdout, done.stderr) == program.run(words, JOURNAL)
+
+
 def refused_allocations(program, work):
     refuse = build_refuse(work)
     for words in (["story", "1", "-"], ["picture", "1"], ["mermaid", "1"], ["trace"], ["serve"], ["--help"], ["story", "--help"], ["--version"]):
@@ -185,7 +209,7 @@ def refused_allocations(program, work):
 
 
 def main():
-    parts = told, written, pictures, viewers, not_written, faulty_journals, chains, explorations, help_texts, versions, refused_allocations
+    parts = told, written, pictures, viewers, not_written, faulty_journals, chains, explorations, help_texts, versions, little_stack, refused_allocations
     return count(Program(sys.argv[1]), *parts)
 
 

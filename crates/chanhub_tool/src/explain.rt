@@ -12,9 +12,9 @@ ghost use Rattle.chanhub_tool.specs.Promises.{HasRefused};
 use crate::asked::{Asked, Form};
 use crate::explanation::write_explanation;
 use crate::fault::tell;
-use crate::files::{Input, Output};
+use crate::files::{Input, Output, tell_unopened};
 use crate::given::Given;
-use hub_replay::{Counted, ReplayFault, Sink, Source};
+use hub_replay::{Counted, Sink, Source};
 use std::alloc::Global;
 
 /// Explains the journal that `input` holds, and answers the exit status: 0 where what was asked is written; 1 for a device
@@ -63,6 +63,6 @@ pub(crate) fn explain_given<X: Sink>(
             let mut input = Counted::new(input);
             explain(rt.alloc(), asked, &mut input, &mut output, errors)
         }
-        Err(_) => tell(ReplayFault::Read, errors),
+        Err(_) => tell_unopened(given.file, errors),
     }
 }

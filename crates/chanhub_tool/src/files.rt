@@ -1,5 +1,6 @@
 //! Standard streams, and the files that take their places.
 
+use hub_replay::{ReplayFault, Sink, tell_fault, write_pieces};
 use std::fs::File;
 use std::io::{Read, Stdin, Stdout, Write};
 use std::{fs, io};
@@ -27,6 +28,20 @@ impl Input {
             None => Ok(Input::Standard(rt.stdin())),
         }
     }
+}
+
+/// Tells which file can't be opened, behind the line of a failed read.
+pub(crate) fn name_unopened<X: Sink>(name: &str, errors: &mut X) {
+    let _ = write_pieces(errors, &["chanhub_tool: '", name, "' cannot be opened\n"]);
+}
+
+/// Tells that a file can't be opened, which counts as a failed read, and answers the status.
+pub(crate) fn tell_unopened<X: Sink>(name: Option<&str>, errors: &mut X) -> u8 {
+    let status = tell_fault(ReplayFault::Read, errors);
+    if let Some(name) = name {
+        name_unopened(name, errors);
+    }
+    status
 }
 
 impl Read for Input {

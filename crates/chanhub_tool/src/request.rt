@@ -13,8 +13,8 @@ pub(crate) enum Request<'a> {
     Do(Command<'a>),
     /// To be told this, as by `--help` and `--version`.
     Tell(String),
-    /// Nothing that the program knows.
-    Unknown,
+    /// Nothing that the program knows, and what `clap` says of that, where it found it.
+    Unknown(Option<String>),
 }
 
 /// What is asked for where `clap` found no command.
@@ -24,7 +24,7 @@ fn request_of<'a>(alloc: Global, error: &Error) -> Result<Request<'a>, NoMemory>
             Ok(Request::Tell(format!(in alloc; "{error}")?))
         }
         ErrorKind::OutOfMemory => Err(NoMemory),
-        _ => Ok(Request::Unknown),
+        _ => Ok(Request::Unknown(Some(format!(in alloc; "{error}")?))),
     }
 }
 
@@ -36,7 +36,7 @@ pub(crate) fn read_request<'a>(
     match grammar(alloc)?.try_get_matches_from(words) {
         Ok(found) => match command_of(alloc, &found)? {
             Some(command) => Ok(Request::Do(command)),
-            None => Ok(Request::Unknown),
+            None => Ok(Request::Unknown(None)),
         },
         Err(error) => request_of(alloc, &error),
     }

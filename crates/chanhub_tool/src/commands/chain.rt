@@ -6,7 +6,7 @@ ghost use Rattle.chanhub_tool.specs.declared.commands.chain.Broken.TheVariants.{
 ghost use Rattle.hub_chain.specs.Texts.{AreWhole, IsAt};
 ghost use Rattle.chanhub_tool.specs.Files.{Hold, IsRead};
 
-use crate::files::{Input, file_of};
+use crate::files::{Input, file_of, name_unopened};
 use clap::{Arg, ArgAction, ArgMatches, Command};
 use hub_base::{MOST_BYTES, TextFault};
 use hub_chain::{Chain, ChainFault};
@@ -208,8 +208,24 @@ pub fn check_chain<S: Shelf, W: Sink, X: Sink>(
     }
 }
 
+/// The first of these files that can't be opened.
+fn unopened<'a>(rt: &HostRuntime, files: &[&'a str]) -> Option<&'a str> {
+    for file in files {
+        if Input::open(rt, file_of(Some(file))).is_err() {
+            return Some(file);
+        }
+    }
+    None
+}
+
 /// Checks the chain of these files, and answers the status.
 pub(super) fn check_files<X: Sink>(rt: &HostRuntime, files: &[&str], errors: &mut X) -> u8 {
     let mut output = Counted::new(rt.stdout());
-    check_chain(rt.alloc(), &Disk(rt), files, &mut output, errors)
+    let status = check_chain(rt.alloc(), &Disk(rt), files, &mut output, errors);
+    if status == 1
+        && let Some(file) = unopened(rt, files)
+    {
+        name_unopened(file, errors);
+    }
+    status
 }

@@ -9,7 +9,7 @@ ghost use Rattle.chanhub_tool.specs.declared.commands.explore.Verdict.TheVariant
 ghost use Rattle.chanhub_tool.specs.Explores.{Finds, IsRefusedFor, IsUnexplored, ReadsMalformed, ReadsScenario};
 ghost use Rattle.chanhub_tool.specs.Explores.{gave_up_line, kept, never_line, stall_line};
 
-use crate::files::{Input, Output, file_of};
+use crate::files::{Input, Output, file_of, tell_unopened};
 use crate::given::optional;
 use crate::limits::{DEFAULT_STATES, MOST_STATES};
 use crate::progress::Progress;
@@ -324,6 +324,6 @@ pub(super) fn explore_given<X: Sink>(rt: &HostRuntime, given: Exploring<'_>, err
                 errors,
             )
         }
-        Err(_) => tell_fault(ReplayFault::Read, errors),
+        Err(_) => tell_unopened(given.scenario, errors),
     }
 }

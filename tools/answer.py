@@ -9,11 +9,11 @@ import sys
 import _signal as signal
 
 SIGNALS = (signal.SIGHUP, signal.SIGINT, signal.SIGQUIT, signal.SIGTERM)
+# Python ignores these, and the program would inherit that.
+IGNORED = (signal.SIGPIPE, signal.SIGXFSZ)
 # The words that a command may have, beside options.
 COMMANDS = {'replay': (), 'run': ('FILE',), 'verify': ('JOURNAL', 'EVENTS')}
 BEGINNING = 'chanhub: '
-# the commands of chanhub_tool, which ../chanhub runs too
-OF_TOOL = ('story', 'picture', 'mermaid', 'trace', 'page', 'serve', 'chain', 'explore')
 MARKS = {b'\xef\xbb\xbf': 'UTF-8', b'\xff\xfe': 'UTF-16', b'\xfe\xff': 'UTF-16'}
 WANTED = {
     'bad header': 'a journal begins with `chanhub journal 1` or `chanhub journal 2`',
@@ -28,9 +28,8 @@ def told_by(program, words):
     """How a program ended, and what it told on standard error, which is passed on."""
     heard, told = os.pipe()
     before = signal.pthread_sigmask(signal.SIG_BLOCK, SIGNALS)
-    # Python ignores the signals of `setsigdef`, and the program would inherit that.
     child = os.posix_spawn(program, [program, *words], os.environ, file_actions=[(os.POSIX_SPAWN_DUP2, told, 2)],
-                           setsigmask=before, setsigdef=(signal.SIGPIPE, signal.SIGXFSZ))
+                           setsigmask=before, setsigdef=IGNORED)
     os.close(told)
     for number in SIGNALS:
         if signal.getsignal(number) != signal.SIG_IGN:
@@ -178,7 +177,7 @@ def help_for(fault, words):
     if fault.startswith('scenario: ') and not fault.endswith('out of memory'):
         return help_of_text(wrong_place, names[0], names[0])
     if fault == 'bad arguments':
-        return './chanhub %s --help tells what it takes' % words[0] if words and words[0] in OF_TOOL else '%s (./chanhub --help)' % wrong_word(words)
+        return '%s (./chanhub --help)' % wrong_word(words)
     if fault == 'read failed':
         return unread(names)
     if fault == 'write failed':
@@ -187,7 +186,7 @@ def help_for(fault, words):
 
 
 def more(said, words):
-    """The line behind a fault line, or nothing; nothing where the program says more itself."""
+    """The line behind a fault line, or nothing; nothing where the program says more itself, as chanhub_tool does."""
     line = said.decode(errors='surrogateescape')
     helps = help_for(line[len(BEGINNING):-1], words) if line.startswith(BEGINNING) and line.find('\n') == len(line) - 1 else ''
     return os.fsencode('./chanhub: %s\n' % helps) if helps else b''
@@ -195,6 +194,11 @@ def more(said, words):
 
 def main():
     program, *words = sys.argv[1:]
+    if words[:1] == ['explore']:
+        # Where standard error is a terminal, it shows there how far it has come.
+        for number in IGNORED:
+            signal.signal(number, signal.SIG_DFL)
+        os.execv(program, [program, *words])
     status, said = told_by(program, words)
     tell(more(said, words))
     if os.WIFSIGNALED(status):

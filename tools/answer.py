@@ -24,6 +24,13 @@ WANTED = {
 }
 
 
+def hear(handler):
+    """Has this called for signals, but for those that are ignored, as under nohup."""
+    for number in SIGNALS:
+        if signal.getsignal(number) != signal.SIG_IGN:
+            signal.signal(number, handler)
+
+
 def told_by(program, words):
     """How a program ended, and what it told on standard error, which is passed on."""
     heard, told = os.pipe()
@@ -31,14 +38,15 @@ def told_by(program, words):
     child = os.posix_spawn(program, [program, *words], os.environ, file_actions=[(os.POSIX_SPAWN_DUP2, told, 2)],
                            setsigmask=before, setsigdef=IGNORED)
     os.close(told)
-    for number in SIGNALS:
-        if signal.getsignal(number) != signal.SIG_IGN:
-            signal.signal(number, lambda number, _: os.kill(child, number))
+    hear(lambda number, _: os.kill(child, number))
     signal.pthread_sigmask(signal.SIG_SETMASK, before)
     said = b''
     while piece := os.read(heard, 65536):
         said += piece
         tell(piece)
+    # Its number may be another process's behind waitpid.
+    os.waitid(os.P_PID, child, os.WEXITED | os.WNOWAIT)
+    hear(signal.SIG_DFL)
     return os.waitpid(child, 0)[1], said
 
 

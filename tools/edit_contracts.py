@@ -19,8 +19,9 @@ IDENTIFIER = re.compile(r'\w+')
 BLOCK = re.compile(r'^(?:pub(?:\([a-z]+\))? )?(?:impl|trait)\b[^{]*\{', re.M)
 OF_TRAIT = re.compile(r'\btrait\b|\bfor\b')
 # What a definition is called, and its fields or ways to make it.
-NAMED = re.compile(r'^(?:(?:(?:abbrev|unfoldable|unfolding|pub|record|data|mod) )*(\S+)|  (?:pub )?(\S+) :)', re.M)
-IMPORT = re.compile(r'^(?:pub )?use [^\n]*\n', re.M)
+NAMED = re.compile(r'^(?:(?:(?:abbrev|unfoldable|unfolding|pub|record|data) )*(\S+)|  (?:pub )?(\S+) :)', re.M)
+# What brings in other modules or names them, and so defines nothing.
+IMPORT = re.compile(r'^(?:pub )?(?:use|mod) [^\n]*\n', re.M)
 
 # A function of a source: by what path a check names it, its own name, its text up to the next, and the clauses of its contract.
 Function = collections.namedtuple('Function', 'path name text clauses')

@@ -217,7 +217,8 @@ def judged_by(*words):
 def tests_of_contracts():
     clauses = list(edit_contracts.clauses(SOURCE))
     yield 'clauses of a source', clauses == ['requires small { x < 9 }', 'ensures { IfOk result (λ r. { r }) }']
-    yield 'imports say nothing', edit_contracts.IMPORT.sub('', 'use A.{b}\npub use C.{d}\nuse_it = b\n') == 'use_it = b\n'
+    imports = 'use A.{b}\npub use C.{d}\npub mod E\nuse_it = b\n'
+    yield 'imports say nothing', edit_contracts.IMPORT.sub('', imports) == 'use_it = b\n'
     always = ['ensures read', 'ghost view', 'record IsEmpty']
     called = sorted(always + ['ensures small', 'ensures {', 'IsSmall :', 'limit ='])
     yield 'the contracts of a function and of what it calls', judged_by('Two::one', 'src/two.rt', 'self.other()') == called

@@ -3,17 +3,21 @@
 does. Behind the program's fault line it says in one more line what helps: which word, file or line is wrong. A signal to this script
 reaches the program.
 """
+import fcntl
 import os
+import stat
 import sys
 # This begins sooner than `signal`, which names numbers by enums.
 import _signal as signal
 
-SIGNALS = (signal.SIGHUP, signal.SIGINT, signal.SIGQUIT, signal.SIGTERM)
+SIGNALS = (signal.SIGHUP, signal.SIGINT, signal.SIGQUIT, signal.SIGTERM, signal.SIGUSR1, signal.SIGUSR2, signal.SIGALRM)
 # Python ignores these, and the program would inherit that.
 IGNORED = (signal.SIGPIPE, signal.SIGXFSZ)
 # The words that a command may have, beside options.
 COMMANDS = {'replay': (), 'run': ('FILE',), 'verify': ('JOURNAL', 'EVENTS')}
 BEGINNING = 'chanhub: '
+# no text that is read is longer
+MOST_BYTES = 67108864
 MARKS = {b'\xef\xbb\xbf': 'UTF-8', b'\xff\xfe': 'UTF-16', b'\xfe\xff': 'UTF-16'}
 WANTED = {
     'bad header': 'a journal begins with `chanhub journal 1` or `chanhub journal 2`',
@@ -31,9 +35,20 @@ def hear(handler):
             signal.signal(number, handler)
 
 
+def pipe():
+    """A pipe that takes no place of a standard stream, which may be closed."""
+    ends = os.pipe()
+    if min(ends) > 2:
+        return ends
+    above = [fcntl.fcntl(it, fcntl.F_DUPFD_CLOEXEC, 3) for it in ends]
+    for it in ends:
+        os.close(it)
+    return above
+
+
 def told_by(program, words):
     """How a program ended, and what it told on standard error, which is passed on."""
-    heard, told = os.pipe()
+    heard, told = pipe()
     before = signal.pthread_sigmask(signal.SIG_BLOCK, SIGNALS)
     child = os.posix_spawn(program, [program, *words], os.environ, file_actions=[(os.POSIX_SPAWN_DUP2, told, 2)],
                            setsigmask=before, setsigdef=IGNORED)
@@ -100,16 +115,18 @@ def files_of(words):
     return files or [None]
 
 
-def content(name):
-    """What the file holds, or standard input from its beginning; raises OSError."""
-    if name is not None:
-        with open(name, 'rb') as file:
-            return file.read()
-    said, piece = b'', os.pread(0, 1 << 20, 0)
-    while piece:
-        said += piece
-        piece = os.pread(0, 1 << 20, len(said))
-    return said
+def is_file(name):
+    """Whether it is a file that can be read again: no pipe, no device. Raises OSError."""
+    return stat.S_ISREG(os.stat(0 if name is None else name).st_mode)
+
+
+def content(name, began):
+    """What the file holds, or standard input from where it began; raises OSError."""
+    if not is_file(name):
+        raise OSError
+    with open(0 if name is None else name, 'rb', closefd=name is not None) as file:
+        file.seek(began if name is None else 0)
+        return file.read(MOST_BYTES)
 
 
 def wrong_line(text, number, fault):
@@ -147,8 +164,8 @@ def unread(names):
         try:
             if name is None:
                 os.read(0, 0)
-            else:
-                open(name, 'rb').read(1)
+            elif is_file(name) or os.path.isdir(name):
+                open(name, 'rb').close()
         except OSError as error:
             return '%s: %s' % ('standard input' if name is None else name, error.strerror)
     return ''
@@ -166,24 +183,32 @@ def unwritten(words):
     return 'standard output, %s' % ('which nobody reads' if place.startswith('pipe:') else place)
 
 
-def help_of_text(find, name, *known):
+def begins_at():
+    """At which byte standard input stands, if that is a file."""
+    try:
+        return os.lseek(0, 0, os.SEEK_CUR)
+    except OSError:
+        return 0
+
+
+def help_of_text(find, began, name, *known):
     """What `find` says of a text that was read."""
     try:
-        text = content(name)
+        text = content(name, began)
     except OSError:
         return 'give the input as a file, as by < FILE, and this line says what is wrong with it'
     return find(text, *known)
 
 
-def help_for(fault, words):
+def help_for(fault, words, began):
     """What helps behind a fault line, which is given without its `chanhub: `; nothing where nothing does."""
     import re
     names = files_of(words)
     found = re.fullmatch('(?:(.*): )?line ([0-9]+): (.*)', fault, re.S)
     if found:
-        return help_of_text(wrong_line, found[1] or names[0], int(found[2]), found[3])
+        return help_of_text(wrong_line, began, found[1] or names[0], int(found[2]), found[3])
     if fault.startswith('scenario: ') and not fault.endswith('out of memory'):
-        return help_of_text(wrong_place, names[0], names[0])
+        return help_of_text(wrong_place, began, names[0], names[0])
     if fault == 'bad arguments':
         return '%s (./chanhub --help)' % wrong_word(words)
     if fault == 'read failed':
@@ -193,10 +218,10 @@ def help_for(fault, words):
     return 'the scripts ask for more steps than the `limit` of the scenario' if fault == 'journal full' else ''
 
 
-def more(said, words):
+def more(said, words, began=0):
     """The line behind a fault line, or nothing; nothing where the program says more itself, as chanhub_tool does."""
     line = said.decode(errors='surrogateescape')
-    helps = help_for(line[len(BEGINNING):-1], words) if line.startswith(BEGINNING) and line.find('\n') == len(line) - 1 else ''
+    helps = help_for(line[len(BEGINNING):-1], words, began) if line.startswith(BEGINNING) and line.find('\n') == len(line) - 1 else ''
     return os.fsencode('./chanhub: %s\n' % helps) if helps else b''
 
 
@@ -207,12 +232,14 @@ def main():
         for number in IGNORED:
             signal.signal(number, signal.SIG_DFL)
         os.execv(program, [program, *words])
+    began = begins_at()
     status, said = told_by(program, words)
-    tell(more(said, words))
+    tell(more(said, words, began))
     if os.WIFSIGNALED(status):
-        signal.signal(os.WTERMSIG(status), signal.SIG_DFL)
+        if os.WTERMSIG(status) != signal.SIGKILL:
+            signal.signal(os.WTERMSIG(status), signal.SIG_DFL)
         os.kill(os.getpid(), os.WTERMSIG(status))
-    return os.waitstatus_to_exitcode(status)
+    return os.WEXITSTATUS(status)
 
 
 if __name__ == '__main__':

@@ -8,17 +8,19 @@ That is the built program where it is current, as `current.py` says. Else `rt tr
 runs and without a proof; it stays until a source changes, and a line on standard error says what it is. Where `rt try` makes none,
 the program is proved and built. Status 125 where there is none in the end.
 """
+import array
+import fcntl
 import os
 import shutil
 import subprocess
 import sys
-import tempfile
+import termios
 import time
 
 sys.dont_write_bytecode = True
 import answer
 import ending
-from build import bring_up_to_date, has_rt, hold
+from build import bring_up_to_date, has_rt, hold, remove
 from crates import LIST, ROOT, below, folder, read_crates
 from current import LAG, look, output, sources, time_of
 
@@ -35,19 +37,27 @@ def tried(crate):
     return os.path.join(folder(ROOT, crate), 'out', 'tried')
 
 
+def changed(path):
+    """When this came here or was changed, whatever time it brought along."""
+    found = os.stat(path)
+    return max(found.st_mtime_ns, found.st_ctime_ns)
+
+
 def is_tried(crate, crates):
-    """Whether that is as new as all that it was compiled from."""
-    return os.path.exists(tried(crate)) and time_of(tried(crate)) >= max(map(time_of, [LIST, *(path for it in {crate, *below(crate, crates)} for path in sources(it))]))
+    """Whether that is newer than all that it was compiled from, and the folders of that."""
+    if not os.path.exists(tried(crate)):
+        return False
+    paths = {LIST, *(path for it in {crate, *below(crate, crates)} for path in sources(it))}
+    return time_of(tried(crate)) >= max(map(changed, paths | {os.path.dirname(it) for it in paths if it != LIST}))
 
 
-def opened(gate, child):
-    """The pipe, once somebody reads from it; none where the child ends before."""
-    while child.poll() is None:
-        try:
-            return os.open(gate, os.O_WRONLY | os.O_NONBLOCK)
-        except OSError:
-            time.sleep(0.05)
-    return None
+def has_begun(gate, child):
+    """Whether somebody reads what is in the pipe; not where the child ends before."""
+    left = array.array('i', [1])
+    while left[0] and child.poll() is None:
+        time.sleep(0.05)
+        fcntl.ioctl(gate, termios.FIONREAD, left)
+    return not left[0]
 
 
 def compile_unproved(crate, room, log):
@@ -55,27 +65,37 @@ def compile_unproved(crate, room, log):
     where that made none."""
     gate = os.path.join(room, 'gate')
     os.mkfifo(gate)
+    # Where this script is killed, the program comes to the end of the pipe.
+    end = os.open(gate, os.O_RDWR)
+    os.write(end, b'\n')
     how = {'cwd': folder(ROOT, crate), 'env': {**os.environ, 'TMPDIR': room}, 'stdin': subprocess.DEVNULL, 'stdout': log, 'stderr': log}
     with subprocess.Popen(['rt', 'try', crate, '--', READS[crate], gate], **how) as child:
-        end = opened(gate, child)
+        has = has_begun(end, child)
         found = [os.path.join(place, 'program') for place, _, files in os.walk(room) if 'program' in files]
-        made = shutil.copy2(found[0], os.path.join(room, 'made')) if end is not None and found else None
-        if end is not None:
-            os.close(end)
+        made = shutil.copy2(found[0], os.path.join(room, 'made')) if has and found else None
+        os.close(end)
         child.terminate()
     return made, child.returncode
 
 
 def keep(crate, began):
     """Has the program compiled, and keeps it: the status of `rt try`, and what it said, where there is none."""
-    with tempfile.TemporaryDirectory(dir=os.path.dirname(tried(crate))) as room, open(os.path.join(room, 'log'), 'w+', errors='replace') as log:
-        made, status = compile_unproved(crate, room, log)
+    # What a killed call left goes.
+    room = os.path.join(os.path.dirname(tried(crate)), 'trying')
+    remove(room)
+    os.mkdir(room)
+    try:
+        with open(os.path.join(room, 'log'), 'w+', errors='replace') as log:
+            made, status = compile_unproved(crate, room, log)
+            log.seek(0)
+            said = log.read()
         if made:
             os.utime(made, ns=(began, began))
             os.replace(made, tried(crate))
             return None, ''
-        log.seek(0)
-        return status, log.read()
+        return status, said
+    finally:
+        shutil.rmtree(room, ignore_errors=True)
 
 
 def make(crate, crates):

@@ -317,6 +317,7 @@ _begin, _begin_until, _resume = _LIBRARY.chanhub_begin, _LIBRARY.chanhub_begin_u
 _SLICE, _FOR_EVER = 50_000_000, 2 ** 64 - 1
 # The longest timeout in seconds, some 30 years. A longer one is this one.
 _LONGEST = 10 ** 9
+_MOST_PROCS = 64
 # The thread that handles signals.
 _main = threading.main_thread().ident
 
@@ -405,7 +406,8 @@ class _Calls:
         for index, case in enumerate(cases):
             if self._has_things and len(case) == 2:
                 number = 100 * (self._put[pid] + len(things) + 1) + pid
-                numbers[index], things[number] = number, case[1]
+                if pid < _MOST_PROCS:
+                    numbers[index], things[number] = number, case[1]
                 case = case[0], number
             packed += _case(*case)
         self._ask(pid, ([], is_select, numbers), things, _begin_until if deadline else _begin,
@@ -1005,7 +1007,10 @@ class Table:
         self._things: Dict[int, Any] = {}
 
     def put(self, seat: Seat, thing: Any) -> int:
-        """Stores an object and returns its number: 100 * k + pid for the k-th that the seat's process puts here, as in a hub of objects."""
+        """Stores an object and returns its number: 100 * k + pid for the k-th that the seat's process puts here, as in a hub of objects.
+        Raises Fault 1 if no hub has such a process."""
+        if seat.pid >= _MOST_PROCS:
+            raise Fault(1)
         number = 100 * next(self._numbers[seat.pid]) + seat.pid
         self._things[number] = thing
         return number

@@ -96,8 +96,10 @@ static void settle(struct calls *calls, unsigned pid, const struct call *call) {
     if (calls->things && told->what == CHANHUB_GOT) forget(calls, PyLong_FromUnsignedLongLong(told->value.number));
 }
 
-/* Puts the objects that the call sends into the table. If there is no memory, none is there. */
+/* Puts the objects that the call sends into the table. If there is no memory, none is there. A process that no hub has puts none:
+ * its numbers would be those of others. */
 static bool puts_things(struct calls *calls, unsigned pid, const struct asked *asked) {
+    if (pid >= MOST_PROCS) return true;
     struct call *call = call_of(calls, pid);
     for (size_t index = 0; index < asked->count; index++) {
         if (!asked->values[index]) continue;
@@ -223,6 +225,7 @@ static bool reads_case(const struct calls *calls, PyObject *port, PyObject *valu
     PyObject *packed = PyObject_CallFunctionObjArgs(used.pack, port, sent, NULL);
     if (!packed) return false;
     memcpy(one, PyBytes_AsString(packed), sizeof *one);
+    one->sends = value; /* an object is not packed: its number comes later */
     Py_DECREF(packed);
     return true;
 }

@@ -25,7 +25,7 @@ pub record HubView : Type 0 where
   pub terms : Terms
   -- the admitted entries, in order
   pub journal : List Entry
-  -- how many steps other than makes take no memory
+  -- how many steps other than makes are not refused memory
   pub places : ℕ
 
 -- a hub as it lies in memory

@@ -56,7 +56,7 @@ clock_in other = NO_CLOCK
 abbrev pub clock_number : Option Session → ℕ
 clock_number s = option_map_or (λ s. clock_in s.hub) s NO_CLOCK
 
--- the step at which the hub diverged from it, if it did
+-- the first step that was told as a divergence from it, if one was
 abbrev pub asked_in : Opened → Option Entry
 asked_in (Following l) = l.asked
 asked_in other = None

@@ -14,7 +14,7 @@ import time
 import unittest
 import weakref
 
-from chanhub import Cancelled, Closed, Drained, Fault, Fired, Hub, Port, Recv, Send, Stalled
+from chanhub import Cancelled, Closed, Drained, Fault, Fired, Hub, Port, Recv, Send, Stalled, Table
 
 LONG = 120  # seconds after which what should end at once, on a slow machine too, is taken to hang
 
@@ -68,6 +68,34 @@ class Objects(unittest.TestCase):
             self.assertIs(self.seat.recv(port), thing)
         lines = [f'0 make {len(things)}', *(f'0 send 1 {100 * k}' for k in range(1, len(things) + 1)), *['0 recv 1'] * len(things)]
         self.assertEqual(self.hub.journal().decode().splitlines()[2:], lines)
+
+    def test_a_port_may_be_a_number_of_another_type(self):
+        class Index:
+            def __init__(self, number):
+                self.number = number
+
+            def __index__(self):
+                return self.number
+
+            def __le__(self, other):
+                return self.number <= other
+
+            def __ge__(self, other):
+                return self.number >= other
+        port = self.seat.make(2)
+        self.seat.send(port, 'one')
+        self.seat.send(Index(int(port)), 'two')
+        self.assertEqual([self.seat.recv(port), self.seat.recv(Index(int(port)))], ['one', 'two'])
+
+    def test_a_process_that_no_hub_has_puts_nothing(self):
+        port, table = self.seat.make(2), Table()
+        self.seat.send(port, 'one')
+        self.seat.send(port, 'two')
+        for call in (lambda seat: seat.send(port, 'three'), lambda seat: table.put(seat, 'three')):
+            with self.assertRaises(Fault) as raised:
+                call(self.hub.seat(100))
+            self.assertEqual(raised.exception.number, 1)
+        self.assertEqual([self.seat.recv(port), self.seat.recv(port)], ['one', 'two'])
 
     def test_other_hubs_take_numbers_and_bytes_only(self):
         with Hub(procs=1) as hub:

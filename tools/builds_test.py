@@ -331,6 +331,9 @@ def from_sources(tests, room):
     time.sleep(0.1)
     write(room.path('crates', 'low', 'src', 'lib.rt'), '//! Not compiled yet.\n')
     tests.same('an edit has it compiled anew', (room.built('./chanhub', 'replay'), room.built('./chanhub', 'replay')), (['tried_chanhub'], []))
+    time.sleep(0.1)
+    os.utime(room.path('crates', 'low', 'src', 'lib.rt'), (0, 0))
+    tests.same('so has a source that brings an older time along', room.built('./chanhub', 'replay'), ['tried_chanhub'])
     forget(room)
     status, told, errors = room.run('./chanhub', 'runn')
     tests.test('./chanhub compiles nothing to refuse its words', (status, told, read(room.log)) == (2, '', '') and errors.startswith('chanhub: bad arguments\n./chanhub: `runn` '), errors)
@@ -359,6 +362,16 @@ def builds_both(tests, room):
     tests.test('./chanhub build builds both programs, and counts what is left', is_well and [it for _, it in left] == ['3', '2', '1', 'none'], errors)
     for words in (('replay',), ('story',)):
         tests.same('./chanhub %s runs what is built' % words, room.run('./chanhub', *words), (0, 'ran %s\n' % words, ''))
+    os.unlink(room.path('crates', 'chanhub', 'out', 'chanhub'))
+    tests.same('./chanhub sees that it is gone', room.built('./chanhub', 'replay'), ['tried_chanhub'])
+    room.build()
+
+
+def pipe_of(room):
+    """A pipe that nobody writes to."""
+    path = os.path.join(room.kit, 'pipe')
+    os.mkfifo(path)
+    return path
 
 
 def answers(tests, room):
@@ -373,14 +386,25 @@ def answers(tests, room):
     write(program, '#!/bin/sh\necho $$\n', True)
     child = room.start('tools/answer.py', program, 'explore')
     tests.same('a search takes the place of the script', child.communicate(timeout=LONG), (str(child.pid) + '\n', ''))
-    write(program, '#!/bin/sh\nkill -SEGV $$\n', True)
-    tests.same('a program that a signal ends', room.run('tools/answer.py', program), (-signal.SIGSEGV, '', ''))
+    for number in (signal.SIGSEGV, signal.SIGKILL):
+        write(program, '#!/bin/sh\nkill -%d $$\n' % number, True)
+        tests.same('a program that %s ends' % number.name, room.run('tools/answer.py', program), (-number, '', ''))
     write(program, '#!/bin/sh\ncat\necho "chanhub: line 3: bad step" >&2\nexit 2\n', True)
     with open(os.path.join(room.kit, 'journal'), 'w+') as journal:
         journal.write('chanhub journal 1\nprocs 1\n0 mak 1\n')
         journal.seek(0)
         done = subprocess.run([room.path('tools', 'answer.py'), program, 'replay'], stdin=journal, capture_output=True, text=True, timeout=LONG)
-    tests.test('standard input is read again for a fault', done.returncode == 2 and done.stderr.startswith('chanhub: line 3: bad step\n./chanhub: line 3 is `0 mak 1`: '), done.stderr)
+        tests.test('standard input is read again for a fault', done.returncode == 2 and done.stderr.startswith('chanhub: line 3: bad step\n./chanhub: line 3 is `0 mak 1`: '), done.stderr)
+        journal.seek(len('chanhub'))
+        done = subprocess.run([room.path('tools', 'answer.py'), program, 'replay'], stdin=journal, capture_output=True, text=True, timeout=LONG)
+        tests.test('from where it began', done.stdout.startswith(' journal') and '`0 mak 1`' in done.stderr, done.stderr)
+    write(program, '#!/bin/sh\necho "chanhub: line 1: bad header" >&2\nexit 2\n', True)
+    for name in ('/dev/zero', pipe_of(room)):
+        done = room.run('tools/answer.py', program, 'verify', name, name)
+        tests.same('what is no file is not read again', done, (2, '', 'chanhub: line 1: bad header\n./chanhub: give the input as a file, as by < FILE, and this line says what is wrong with it\n'))
+    write(program, '#!/bin/sh\necho "chanhub: read failed" >&2\nexit 1\n', True)
+    done = subprocess.run([room.path('tools', 'answer.py'), program, 'replay'], preexec_fn=lambda: os.close(0), capture_output=True, text=True, timeout=LONG)
+    tests.same('a closed standard input', (done.returncode, done.stderr), (1, 'chanhub: read failed\n./chanhub: standard input: Bad file descriptor\n'))
 
 
 @contextlib.contextmanager

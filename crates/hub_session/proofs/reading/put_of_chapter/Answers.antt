@@ -9,8 +9,10 @@ use Rattle.hub_session.proofs.reading.put_of_chapter.Goals as goal
 
 pub put_head_or_line-requires : goal.put_head_or_line-requires
 put_head_or_line-requires c =
-    record { fits = rw (c.entry.ensures.entry, c.head.ensures.value)
-        (fits_at c.args.hub.now.memory.hub.terms.head.edition c.args.hub.now.memory.hub.journal c.place_of.result c.entry.ensures.fits) }
+    record {
+      fits = rw (c.entry.ensures.entry, c.head.ensures.value)
+          (fits_at c.args.hub.now.memory.hub.terms.head.edition c.args.hub.now.memory.hub.journal c.place_of.result c.entry.ensures.fits);
+    }
 
 pub returns-clause-reads : goal.returns-clause-reads
 returns-clause-reads c =

@@ -8,8 +8,10 @@ use Rattle.hub_session.proofs.reading.put_of_given.Goals as goal
 
 pub put_head_or_line-requires : goal.put_head_or_line-requires
 put_head_or_line-requires c =
-    record { fits = rw (c.given.ensures.entry, c.head.ensures, c.locked.ensures)
-        (fits_at c.args.hub.now.locked.hub.terms.head.edition c.args.hub.now.given c.place_of.result c.given.ensures.fits) }
+    record {
+      fits = rw (c.given.ensures.entry, c.head.ensures, c.locked.ensures)
+          (fits_at c.args.hub.now.locked.hub.terms.head.edition c.args.hub.now.given c.place_of.result c.given.ensures.fits);
+    }
 
 pub returns-clause-reads : goal.returns-clause-reads
 returns-clause-reads c =

@@ -110,7 +110,8 @@ struct shown {
 /* What the watch over hubs knows of this one. */
 struct watch {
     chanhub *next;    /* the one that was opened next */
-    uint64_t entries; /* how many there were when it looked last */
+    uint64_t entries; /* how many there were when it looked last, in the present chapter */
+    uint64_t values;  /* how many were sent and received by then */
     uint64_t since;   /* when it first saw so many, while a call waits */
     unsigned file;    /* the number of the file that has its journal, from 1; 0 if there is none yet */
     bool is_told;     /* whether that was written since */

@@ -24,14 +24,31 @@ static pthread_mutex_t lock = PTHREAD_MUTEX_INITIALIZER; /* of what follows; it 
 static chanhub *first;   /* the hubs that are open, the oldest first */
 static unsigned written; /* of how many hubs a journal was written */
 
+/* How many values were sent and received in a hub. Unlike its entries they count on from chapter to chapter. Holds the lock. */
+static uint64_t passed(chanhub *h) {
+    uint64_t count = 0;
+    for (uint16_t port = 1; port <= MOST_PORTS; port++) {
+        chanhub_counts counts = hub_c_look(&h->hub, port);
+        count += counts.sent + counts.received;
+    }
+    return count;
+}
+
+/* Notes how far a hub is, and whether it has moved, or no call waits. */
+static void note_moves(chanhub *h, uint64_t now) {
+    struct watch *w = &h->watch;
+    take_lock(h);
+    uint64_t entries = hub_c_entries(&h->hub), values = passed(h);
+    bool moved = entries != w->entries || values != w->values || !h->open;
+    leave_lock(h);
+    if (moved) *w = (struct watch){ .next = w->next, .file = w->file, .entries = entries, .values = values, .since = now };
+}
+
 /* Whether nothing has moved for so long in a hub, which nobody was told yet. */
 static bool stands_still(chanhub *h) {
     struct watch *w = &h->watch;
     uint64_t now = chanhub_in(0);
-    take_lock(h);
-    uint64_t entries = hub_c_entries(&h->hub);
-    if (entries != w->entries || !h->open) *w = (struct watch){ .next = w->next, .file = w->file, .entries = entries, .since = now };
-    leave_lock(h);
+    note_moves(h, now);
     bool is_news = !w->is_told && now - w->since >= seconds * BILLION;
     w->is_told |= is_news;
     return is_news;

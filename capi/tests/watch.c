@@ -5,20 +5,31 @@
 
 #include <stdlib.h>
 
-enum { SECONDS = 60, STILL = 1500000 };
+enum { SECONDS = 60, STILL = 1500000, KEEP = 100, PAUSE = 20000 };
+
+static const uint64_t SECOND = 1000000000;
 
 static const char *file;
+
+static void make(chanhub *hub) {
+    is("made", chanhub_make(hub, 0, 0).port, 1);
+}
 
 static chanhub *opened(void) {
     chanhub *hub;
     is("opened", chanhub_open(&hub, 2, 2, 100), 0);
-    is("made", chanhub_make(hub, 0, 0).port, 1);
+    make(hub);
     return hub;
 }
 
 static void waits(chanhub *hub) {
     chanhub_case receive = { .port = 1 };
     is("waiting", chanhub_begin(hub, 1, &receive, 1, false, 0).what, CHANHUB_WAITING);
+}
+
+static void hand_over(chanhub *hub) {
+    is("sent", chanhub_send(hub, 0, 1, chanhub_number(5)).what, CHANHUB_SENT);
+    is("got", chanhub_resume(hub, 1, 0).what, CHANHUB_GOT);
 }
 
 /* Whether the file of this number holds this text, or stands there if that is NULL. */
@@ -36,30 +47,56 @@ static void await(unsigned number, const char *wanted) {
     while (!holds(number, wanted)) usleep(10000);
 }
 
-#define BEGINNING "chanhub journal 2\nprocs 2\n0 make 0\n"
+#define HEAD "chanhub journal 2\nprocs 2\n"
+#define BEGINNING HEAD "0 make 0\n"
+
+/* One hub after the other stands still. One whose call waits is freed only once it is told of, so that it takes no other's file. */
+static void some_stand_still(void) {
+    chanhub *nobody_waits = opened(), *freed = opened(), *first = opened(), *second = opened();
+    chanhub_free(freed);
+    waits(first);
+    await(1, BEGINNING "1 recv 1\n");
+    /* Once, as long as nothing moves; and then again. */
+    is("removed", remove(file), 0);
+    usleep(STILL);
+    is("told once", holds(1, NULL), 0);
+    hand_over(first);
+    usleep(STILL);
+    is("nobody waits", holds(1, NULL), 0);
+    waits(first);
+    await(1, BEGINNING "1 recv 1\n0 send 1 5\n1 recv 1\n");
+    chanhub_free(first);
+    waits(second);
+    await(2, BEGINNING "1 recv 1\n");
+    is("no other file", holds(3, NULL), 0);
+    chanhub_free(second), chanhub_free(nobody_waits);
+}
+
+/* A hub whose chapters have equally many entries whenever it is looked at moves nevertheless. Then it stands still. */
+static void chapters_are_alike(void) {
+    chanhub *hub;
+    is("opened", chanhub_open_endless(&hub, 2, 2, KEEP, NULL, NULL), 0);
+    make(hub), waits(hub);
+    uint64_t before = chanhub_in(0), end = before + 2 * SECOND, longest = 0;
+    while (before < end) {
+        hand_over(hub), waits(hub);
+        is("cut", chanhub_cut(hub), 1);
+        usleep(PAUSE);
+        uint64_t now = chanhub_in(0);
+        if (now - before > longest) longest = now - before;
+        before = now;
+    }
+    /* Where this thread stood still itself for so long, that could be told. */
+    if (longest < SECOND / 2) is("it moves", holds(3, NULL), 0);
+    await(3, BEGINNING "1 recv 1\n");
+    chanhub_free(hub);
+}
 
 int main(int count, char **words) {
     if (count != 2) return 2;
     file = words[1];
     alarm(SECONDS);
-    chanhub *nobody_waits = opened(), *freed = opened(), *first = opened(), *second = opened();
-    waits(freed);
-    chanhub_free(freed);
-    waits(first);
-    await(1, BEGINNING "1 recv 1\n");
-    waits(second);
-    await(2, BEGINNING "1 recv 1\n");
-    /* Once, as long as nothing moves; and then again. */
-    is("removed", remove(file), 0);
-    usleep(STILL);
-    is("told once", holds(1, NULL), 0);
-    is("sent", chanhub_send(first, 0, 1, chanhub_number(5)).what, CHANHUB_SENT);
-    is("got", chanhub_resume(first, 1, 0).what, CHANHUB_GOT);
-    usleep(STILL);
-    is("nobody waits", holds(1, NULL), 0);
-    waits(first);
-    await(1, BEGINNING "1 recv 1\n0 send 1 5\n1 recv 1\n");
-    is("no other file", holds(3, NULL), 0);
-    chanhub_free(first), chanhub_free(second), chanhub_free(nobody_waits);
+    some_stand_still();
+    chapters_are_alike();
     return tally("watch");
 }

@@ -114,6 +114,7 @@ static void begin(void) {
 void watch_hub(chanhub *h) {
     pthread_once(&once, begin);
     if (!file) return;
+    h->watch.since = chanhub_in(0);
     pthread_mutex_lock(&lock);
     chanhub **last = &first;
     while (*last) last = &(*last)->watch.next;

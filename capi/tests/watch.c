@@ -1,8 +1,9 @@
 /* watch FILE: hubs that are watched, since CHANHUB_WATCH is 1:FILE. Each time that a hub stands still while a call waits, its journal
  * is written: of the first to FILE, of another to FILE.2. A test that hangs is ended by an alarm.
  */
-#include "tally.h"
+#include "runs.h"
 
+#include <pthread.h>
 #include <stdlib.h>
 
 enum { SECONDS = 60, STILL = 1500000, KEEP = 100, PAUSE = 20000 };
@@ -92,11 +93,30 @@ static void chapters_are_alike(void) {
     chanhub_free(hub);
 }
 
+/* A hub in which no step was made yet: its first call waits for its turn in a journal. */
+static void *is_stopped(void *hub) {
+    is_diverged("stopped", chanhub_make(hub, 0, 0), 1);
+    return NULL;
+}
+
+static void waits_for_its_turn(void) {
+    pthread_t thread;
+    uint64_t begun = chanhub_in(0);
+    chanhub *hub = follows(HEAD "1 make 0\n0 make 0\n", false);
+    pthread_create(&thread, NULL, is_stopped, hub);
+    await(4, HEAD);
+    is("not before its time", chanhub_in(0) - begun >= SECOND, 1);
+    chanhub_stop(hub);
+    pthread_join(thread, NULL);
+    chanhub_free(hub);
+}
+
 int main(int count, char **words) {
     if (count != 2) return 2;
     file = words[1];
     alarm(SECONDS);
     some_stand_still();
     chapters_are_alike();
+    waits_for_its_turn();
     return tally("watch");
 }

@@ -30,10 +30,8 @@ static int write_file(const char *path, const char *text, size_t length) {
     return error;
 }
 
-/* Writes under another name first, so that a file of this name is whole. */
-int write_whole(const char *path, const char *text, size_t length) {
-    char part[PATH_ROOM + sizeof ".tmp"];
-    snprintf(part, sizeof part, "%s.tmp", path);
+/* Writes under the name of a part first, which nobody else writes to meanwhile, so that a file of this name is whole. */
+int write_whole(const char *path, const char *part, const char *text, size_t length) {
     int error = write_file(part, text, length);
     if (!error && rename(part, path) != 0) error = errno;
     if (error) unlink(part);
@@ -49,9 +47,10 @@ void tell_error(const char *path, int error) {
 
 void chanhub_write_chapter(void *pointer, const char *text, size_t length) {
     chanhub_files *files = pointer;
-    char path[PATH_ROOM];
+    char path[PATH_ROOM], part[PATH_ROOM + sizeof ".tmp"];
     snprintf(path, sizeof path, "%s.%" PRIu64, files->name, files->next++);
-    int error = text ? write_whole(path, text, length) : ENOMEM;
+    snprintf(part, sizeof part, "%s.tmp", path);
+    int error = text ? write_whole(path, part, text, length) : ENOMEM;
     if (!error || files->error) return;
     files->error = error;
     tell_error(path, error);

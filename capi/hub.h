@@ -238,7 +238,7 @@ void watch_hub(chanhub *h);
 void unwatch_hub(chanhub *h);
 
 /* files.c */
-int write_whole(const char *path, const char *text, size_t length);
+int write_whole(const char *path, const char *part, const char *text, size_t length);
 void tell_error(const char *path, int error);
 
 #pragma GCC visibility pop

@@ -11,6 +11,8 @@
 #include <signal.h>
 #include <stdio.h>
 #include <stdlib.h>
+#include <string.h>
+#include <unistd.h>
 
 enum {
     LOOKS = 8, /* how often it looks in the time after which it writes */
@@ -18,7 +20,8 @@ enum {
 };
 
 static pthread_once_t once = PTHREAD_ONCE_INIT;
-static const char *file; /* NULL where nothing is watched */
+static char file[PATH_MAX]; /* a copy, since the program may change its environment */
+static bool watches;
 static uint64_t seconds;
 static pthread_mutex_t lock = PTHREAD_MUTEX_INITIALIZER; /* of what follows; it is taken before that of a hub */
 static chanhub *first;   /* the hubs that are open, the oldest first */
@@ -54,15 +57,17 @@ static bool stands_still(chanhub *h) {
     return is_news;
 }
 
-/* Writes the journal of a hub to its file, which is another for each hub. */
+/* Writes the journal of a hub to its file, which is another for each hub. Another program may have the same environment, so its part
+ * has the number of this one in its name. */
 static void write_journal(chanhub *h) {
-    char path[PATH_ROOM];
+    char path[PATH_ROOM], part[PATH_ROOM + sizeof ".2147483647.tmp"];
     size_t length;
     if (!h->watch.file) h->watch.file = ++written;
     if (h->watch.file == 1) snprintf(path, sizeof path, "%s", file);
     else snprintf(path, sizeof path, "%s.%u", file, h->watch.file);
+    snprintf(part, sizeof part, "%s.%d.tmp", path, (int)getpid());
     char *text = chanhub_journal(h, &length);
-    int error = text ? write_whole(path, text, length) : ENOMEM;
+    int error = text ? write_whole(path, part, text, length) : ENOMEM;
     chanhub_free_text(text);
     if (error) tell_error(path, error);
     else fprintf(stderr, "chanhub: nothing has moved in a hub for %" PRIu64 " s: its journal is in %s\n", seconds, path);
@@ -94,26 +99,32 @@ static bool start(void) {
 
 /* A child has no such thread, and nobody there lets go of the lock, if the thread has it. */
 static void forget(void) {
-    file = NULL;
+    watches = false;
+}
+
+/* Reads what is asked for, SECONDS:FILE. Returns whether it is that, and there is room for it. */
+static bool read_wish(const char *asked) {
+    char *end;
+    if (*asked < '0' || *asked > '9') return false;
+    seconds = strtoull(asked, &end, 10);
+    size_t length = *end == ':' ? strlen(end + 1) : 0;
+    if (!seconds || seconds > MOST_SECONDS || !length || length >= sizeof file) return false;
+    memcpy(file, end + 1, length + 1);
+    return true;
 }
 
 /* Begins to watch, if it is asked for. */
 static void begin(void) {
     const char *asked = secure_getenv("CHANHUB_WATCH");
     if (!asked || !*asked) return;
-    char *end;
-    bool has_number = *asked >= '0' && *asked <= '9';
-    seconds = strtoull(asked, &end, 10);
-    file = end + 1;
-    bool is_right = has_number && seconds && seconds <= MOST_SECONDS && *end == ':' && *file;
-    if (is_right && pthread_atfork(NULL, NULL, forget) == 0 && start()) return;
-    file = NULL;
+    watches = read_wish(asked) && pthread_atfork(NULL, NULL, forget) == 0 && start();
+    if (watches) return;
     fprintf(stderr, "chanhub: CHANHUB_WATCH=%s: there is no watch; SECONDS:FILE asks for one\n", asked);
 }
 
 void watch_hub(chanhub *h) {
     pthread_once(&once, begin);
-    if (!file) return;
+    if (!watches) return;
     h->watch.since = chanhub_in(0);
     pthread_mutex_lock(&lock);
     chanhub **last = &first;
@@ -123,7 +134,7 @@ void watch_hub(chanhub *h) {
 }
 
 void unwatch_hub(chanhub *h) {
-    if (!file) return;
+    if (!watches) return;
     pthread_mutex_lock(&lock);
     chanhub **at = &first;
     while (*at && *at != h) at = &(*at)->watch.next;

@@ -84,7 +84,7 @@ is_watched() {
 
 # refuses_watches: whether each watch that is none is told, once, and the program goes on.
 refuses_watches() {
-    for watch in soon 0:hung 1: 1 -1:hung 1000000001:hung 99999999999999999999:hung; do
+    for watch in soon 0:hung 1: 1 -1:hung 1000000001:hung 99999999999999999999:hung "$(printf '1:%04096d' 0)"; do
         CHANHUB_WATCH=$watch "$work/pool" > "$work/printed" 2> "$work/said" && cmp "$work/printed" "$work/sum" &&
             [ "$(cat "$work/said")" = "chanhub: CHANHUB_WATCH=$watch: there is no watch; SECONDS:FILE asks for one" ] || return
     done

@@ -33,15 +33,28 @@ static void hand_over(chanhub *hub) {
     is("got", chanhub_resume(hub, 1, 0).what, CHANHUB_GOT);
 }
 
-/* Whether the file of this number holds this text, or stands there if that is NULL. */
-static bool holds(unsigned number, const char *wanted) {
-    char path[4096], text[4096];
-    snprintf(path, sizeof path, number > 1 ? "%s.%u" : "%s", file, number);
-    FILE *found = fopen(path, "r");
+/* Opens the file whose name has this end. */
+static FILE *open_file(const char *end, const char *mode) {
+    char path[4096];
+    snprintf(path, sizeof path, "%s%s", file, end);
+    return fopen(path, mode);
+}
+
+/* Whether that file holds this text, or stands there if that is NULL. */
+static bool file_holds(const char *end, const char *wanted) {
+    char text[4096];
+    FILE *found = open_file(end, "r");
     if (!found) return false;
     size_t length = fread(text, 1, sizeof text, found);
     fclose(found);
     return !wanted || (length == strlen(wanted) && memcmp(text, wanted, length) == 0);
+}
+
+/* The same of the file of this number. */
+static bool holds(unsigned number, const char *wanted) {
+    char end[16] = "";
+    if (number > 1) snprintf(end, sizeof end, ".%u", number);
+    return file_holds(end, wanted);
 }
 
 static void await(unsigned number, const char *wanted) {
@@ -111,12 +124,29 @@ static void waits_for_its_turn(void) {
     chanhub_free(hub);
 }
 
+/* Another program with the same environment is writing a journal. */
+static void another_writes(void) {
+    FILE *part = open_file(".tmp", "w");
+    if (!part || fputs("another's", part) < 0 || fclose(part)) exit(2);
+}
+
+/* The environment is read when the first hub is opened, and never again. */
+static void is_read_once(void) {
+    chanhub *hub = opened();
+    char *asked = getenv("CHANHUB_WATCH");
+    memset(asked, 0, strlen(asked));
+    chanhub_free(hub);
+}
+
 int main(int count, char **words) {
     if (count != 2) return 2;
     file = words[1];
     alarm(SECONDS);
+    another_writes();
+    is_read_once();
     some_stand_still();
     chapters_are_alike();
     waits_for_its_turn();
+    is("another's stays", file_holds(".tmp", "another's"), 1);
     return tally("watch");
 }

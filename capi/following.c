@@ -131,10 +131,12 @@ uint64_t pass_turn(chanhub *h, const struct told *t) {
 }
 
 /* Whether the step that came to this is to be made again, since its turn had not come. Then waits for that, unless the hub has
- * ended meanwhile. */
+ * ended meanwhile. Where the hub follows no longer, all processes may have been in calls until now, so that nobody could make a close
+ * for ends that are gone: it comes before the step. */
 static bool waits_for_turn(chanhub *h, unsigned pid, struct told *t) {
     if (t->it.what) return false;
     if (!h->asks_again) wait_for_turn(h, pid);
+    if (h->state == FREE && h->gone) close_gone(h, pid);
     if (h->state != ENDED && !h->asks_again) return true;
     t->it = refused(h, h->state == ENDED ? CHANHUB_DIVERGED : CHANHUB_NOT_YET);
     return false;

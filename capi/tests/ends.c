@@ -33,6 +33,11 @@ static void make(unsigned pid, unsigned port) {
     is("made", chanhub_make(hub, pid, 0).port, port);
 }
 
+/* Returns once a thread waits in a call of this process. */
+static void await_call(unsigned pid) {
+    while (chanhub_resume(hub, pid, 0).fault != CHANHUB_BUSY) usleep(100);
+}
+
 /* ---- By hand. ---- */
 
 #define HEAD "chanhub journal 2\nprocs 2\n"
@@ -94,7 +99,7 @@ static void others_wait(void) {
     pthread_t thread;
     open_with_ends(HEAD "0 make 0\n1 close 1\n1 exit\n0 exit\n", false);
     pthread_create(&thread, NULL, exits, NULL);
-    while (chanhub_resume(hub, 1, 0).fault != CHANHUB_BUSY) usleep(100);
+    await_call(1);
     is_fault("it is in a call", chanhub_make(hub, 1, 0), CHANHUB_BUSY);
     make(0, 1);
     is("made here", chanhub_ends_gone(hub, 1) && is_closed(1), 1);
@@ -159,6 +164,28 @@ static void it_ends(void) {
     usleep(20000);
     is_diverged("another capacity", chanhub_make(hub, 0, 7), 1);
     pthread_join(thread, NULL);
+    chanhub_free(hub);
+}
+
+/* Nobody is in no call when the journal ends, and one of them waits for its turn: it makes the close before its own step. */
+static void *is_drained(void *tries) {
+    is("drained", (tries ? chanhub_try_recv : chanhub_recv)(hub, 0, 1).what, CHANHUB_DRAINED);
+    is("exit", chanhub_exit(hub, 0).what, CHANHUB_DONE);
+    return NULL;
+}
+
+static void behind_the_journal(bool tries) {
+    pthread_t thread;
+    open_with_ends(HEAD "0 make 0\n1 recv 0\n", true);
+    make(0, 1);
+    is("it will be made", chanhub_ends_gone(hub, 1), 1);
+    pthread_create(&thread, NULL, is_drained, tries ? &tries : NULL);
+    await_call(0);
+    begin_recv(1, 0);
+    pthread_join(thread, NULL);
+    is("stalled", chanhub_resume(hub, 1, 0).what, CHANHUB_STALLED);
+    has_journal("closed first", hub, tries ? HEAD "0 make 0\n1 recv 0\n0 close 1\n0 select 0 r1 default\n0 exit\n"
+                                           : HEAD "0 make 0\n1 recv 0\n0 close 1\n0 recv 1\n0 exit\n");
     chanhub_free(hub);
 }
 
@@ -329,6 +356,7 @@ int main(int count, char **words) {
         behind_an_answer();
         others_wait();
         it_ends();
+        for (int tries = 0; tries < 2; tries++) behind_the_journal(tries);
         others();
         ports_to_come();
     } else {

@@ -161,7 +161,7 @@ static void it_ends(void) {
     /* A call that waits for the close goes on. */
     open_with_ends(HEAD "0 make 0\n0 make 0\n1 close 1\n1 exit\n", true);
     pthread_create(&thread, NULL, exits, NULL);
-    usleep(20000);
+    await_call(1);
     is_diverged("another capacity", chanhub_make(hub, 0, 7), 1);
     pthread_join(thread, NULL);
     chanhub_free(hub);
@@ -224,7 +224,7 @@ static void ports_to_come(void) {
     hub = follows(HEAD "0 make 0\n1 close 1\n1 exit\n", false);
     chanhub_closes_with_ends(hub, 0);
     pthread_create(&thread, NULL, exits, NULL);
-    usleep(20000);
+    await_call(1);
     says_late(NULL);
     pthread_join(thread, NULL);
     chanhub_free(hub);
@@ -233,7 +233,7 @@ static void ports_to_come(void) {
     chanhub_closes_with_ends(hub, 0);
     make(0, 1);
     pthread_create(&thread, NULL, diverges, NULL);
-    usleep(20000);
+    await_call(1);
     is_diverged("nobody closes it", chanhub_exit(hub, 0), 2);
     pthread_join(thread, NULL);
     chanhub_free(hub);

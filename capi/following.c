@@ -56,6 +56,7 @@ static bool is_behind(chanhub *h, unsigned pid, int step) {
 /* Waits, before a call of this process, for such closes. Returns why it does not, or 0. What the process made before is no longer
  * new. */
 uint8_t await_closes(chanhub *h, unsigned pid, int step) {
+    if (only(pid)) h->places[pid].step = step;
     if (only(pid) && h->places[pid].made) {
         h->places[pid].made = 0;
         if (h->foresees) wake(h, EVERYBODY);
@@ -150,9 +151,9 @@ bool is_for_another_try(chanhub *h, unsigned pid, struct told *t) {
     return true;
 }
 
-/* Whether another call of this process would have to wait: if one is open, it would be refused. */
+/* Whether this process would have to wait if it made its last call again: if one is open, that would be refused. */
 static bool would_wait(chanhub *h, unsigned pid) {
-    return !(h->open & only(pid)) && (first_before(h, pid) || is_behind(h, pid, ANY_STEP));
+    return !(h->open & only(pid)) && (first_before(h, pid) || is_behind(h, pid, h->places[pid].step));
 }
 
 bool chanhub_turn(chanhub *h, unsigned pid, uint64_t nanoseconds) {

@@ -96,6 +96,7 @@ struct place {
     uint64_t deadline; /* of the call, if it is in `timed` */
     atomic_uint_least64_t told; /* when it was woken since it was cleared, in ticks; 0 if it was not; read without the lock */
     uint32_t turns;             /* how many times its process's turn came, in a hub that follows a journal */
+    int step;                   /* what its process's last call was to make, as for enter, in a hub that follows a journal */
     uint16_t made;              /* the port that its process's last call made, in a hub that follows a journal; 0 if it made none */
     uint8_t late;               /* how many times running its answer came later than a look would have seen */
     uint8_t sleeps;             /* how many times it sleeps at once before it looks again */

@@ -20,6 +20,13 @@ static void open_with_ends(const char *journal, bool goes_on) {
     chanhub_closes_with_ends(hub, 1);
 }
 
+/* The same of a hub in which a call whose turn has not come is told so. */
+static void open_asking(const char *journal) {
+    chanhub_options options = { .journal = journal, .journal_length = strlen(journal), .asks_again = true };
+    is("opened", chanhub_open_with(&hub, &options), 0);
+    chanhub_closes_with_ends(hub, 1);
+}
+
 static bool is_closed(unsigned port) {
     return chanhub_look(hub, port).closed;
 }
@@ -114,14 +121,26 @@ static void others_wait(void) {
     is("drained", chanhub_recv(hub, 0, 1).what, CHANHUB_DRAINED);
     chanhub_free(hub);
 
-    const char *journal = HEAD "0 make 0\n1 close 1\n1 exit\n";
-    chanhub_options options = { .journal = journal, .journal_length = strlen(journal), .asks_again = true };
-    is("opened", chanhub_open_with(&hub, &options), 0);
-    chanhub_closes_with_ends(hub, 1);
+    open_asking(HEAD "0 make 0\n1 close 1\n1 exit\n");
     make(0, 1);
     is_fault("behind the close", chanhub_exit(hub, 1), CHANHUB_NOT_YET);
     is("not its turn", chanhub_turn(hub, 1, MILLISECOND), 0);
     is("made here", chanhub_ends_gone(hub, 1) && chanhub_turn(hub, 1, 0), 1);
+    is("exit", chanhub_exit(hub, 1).what, CHANHUB_DONE);
+    chanhub_free(hub);
+}
+
+/* A process that closes the port itself asks for the turn of that, also where this comes before it asks; with another call it would
+ * have to wait. */
+static void asks_for_its_close(void) {
+    open_asking(HEAD "0 make 0\n0 make 0\n1 close 1\n1 exit\n");
+    make(0, 1);
+    is_fault("not yet", chanhub_close(hub, 1, 1), CHANHUB_NOT_YET);
+    make(0, 2);
+    is("its turn", chanhub_turn(hub, 1, MILLISECOND), 1);
+    is_fault("behind the close", chanhub_exit(hub, 1), CHANHUB_NOT_YET);
+    is("not its turn", chanhub_turn(hub, 1, MILLISECOND), 0);
+    is("closed", chanhub_close(hub, 1, 1).what, CHANHUB_DONE);
     is("exit", chanhub_exit(hub, 1).what, CHANHUB_DONE);
     chanhub_free(hub);
 }
@@ -355,6 +374,7 @@ int main(int count, char **words) {
         behind_the_clock();
         behind_an_answer();
         others_wait();
+        asks_for_its_close();
         it_ends();
         for (int tries = 0; tries < 2; tries++) behind_the_journal(tries);
         others();

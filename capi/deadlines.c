@@ -8,14 +8,23 @@
 
 /* ---- Each of these holds the lock; in a hub that never ends, not while it waits or hands out a chapter. ---- */
 
-/* Wakes the clock, where it waits, within a call of this process. Returns why it is not awake, or 0. */
+/* Does what follows from a step that is not the last of this process's call. The library's steps that are next in the journal are
+ * made here, since this thread may have to wait for its next turn. Other hubs see to the clock once the call ends. */
+static void follow_up_within(chanhub *h, unsigned pid, const struct told *t) {
+    follow_up(h, pid, t);
+    if (h->state) settle(h, pid);
+}
+
+/* Wakes the clock, where it waits, within a call of this process. Returns why it is not awake, or 0. In a journal that is followed the
+ * clock may wait again before the call goes on. */
 static uint8_t wake_clock(chanhub *h, unsigned pid) {
     while (h->clock_is == ASLEEP) {
         struct told t = { 0 };
         hub_c_cancel(&h->hub, (uint8_t)pid, h->clock, &t);
         if (is_to_be_made_again(h, pid, &t)) continue;
         if (t.it.what != CHANHUB_DONE) return t.it.fault;
-        follow_up(h, pid, &t);
+        follow_up_within(h, pid, &t);
+        if (h->state) return 0;
     }
     return h->clock_is == AWAKE ? 0 : CHANHUB_NO_MEMORY;
 }
@@ -113,7 +122,7 @@ static chanhub_told select_until(chanhub *h, unsigned pid, const chanhub_case *c
     if (waits) return finish_timed(h, pid, &t, nanoseconds);
     if (t.it.what == CHANHUB_DEFAULT) {
         if (waits_when_tried(h, pid, state == FOLLOWS)) {
-            follow_up(h, pid, &t);
+            follow_up_within(h, pid, &t);
             return wait_with_deadline(h, pid, cases, count, word, nanoseconds);
         }
         t.it.what = CHANHUB_TIMED_OUT;

@@ -82,6 +82,19 @@ static void behind_the_clock(void) {
     chanhub_free(hub);
 }
 
+/* The step before is a try, or wakes the clock: another follows in the same call. */
+static void within_a_call(const char *journal) {
+    open_with_ends(journal, false);
+    make(0, 1), make(0, 2);
+    is("it will be made", chanhub_ends_gone(hub, 1), 1);
+    is("timed out", chanhub_recv_until(hub, 0, 2, FAR_OFF).what, CHANHUB_TIMED_OUT);
+    is("closed", is_closed(1), 1);
+    has_journal("the same", hub, journal);
+    chanhub_free(hub);
+}
+
+#define TIMED "chanhub journal 2\nprocs 3\n2 recv 0\n0 make 0\n0 make 0\n0 select 0 r2 default\n"
+
 /* The process waits in a call, and its answer is not picked up when the close is next: it loses no answer. */
 static void behind_an_answer(void) {
     open_with_ends(HEAD "0 make 0\n0 make 0\n1 recv 2\n0 send 2 9\n1 close 1\n0 recv 1\n", false);
@@ -372,6 +385,8 @@ int main(int count, char **words) {
     if (count > 1 && strcmp(words[1], "alone") == 0) {
         as_an_idle_process();
         behind_the_clock();
+        within_a_call(TIMED "1 close 1\n0 cancel 2\n0 recv 2\n2 cancel 0\n2 recv 0\n");
+        within_a_call(TIMED "0 cancel 2\n1 close 1\n0 recv 2\n2 cancel 0\n2 recv 0\n");
         behind_an_answer();
         others_wait();
         asks_for_its_close();

@@ -63,6 +63,18 @@ static void a_value_came(void) {
     chanhub_free(hub);
 }
 
+/* The clock waits again before the call does, which so has no deadline. No hub records that. */
+static void the_clock_is_first(void) {
+    static const char *const journal = BEGINNING "0 select 0 r1 default\n0 cancel 2\n2 recv 0\n0 recv 1\n1 send 1 7\n";
+    chanhub *hub = begun(journal, false);
+    is("waiting", begin_recv(hub, 0, 0).what, CHANHUB_WAITING);
+    is("it has no deadline", chanhub_expire(hub, 0), 0);
+    is("sent", chanhub_send(hub, 1, 1, chanhub_number(7)).what, CHANHUB_SENT);
+    is("got", (long long)chanhub_resume(hub, 0, CHANHUB_NEVER).value.number, 7);
+    has_journal("the same", hub, journal);
+    chanhub_free(hub);
+}
+
 /* Calls that were tried, and then waited or not. While the clock is awake, one without a try waits. */
 static void tries(void) {
     static const char *const journal =
@@ -298,6 +310,7 @@ int main(void) {
     alarm(SECONDS);
     a_deadline_passed();
     a_value_came();
+    the_clock_is_first();
     tries();
     several();
     divergences();

@@ -79,7 +79,7 @@ writes_files() {
 # is_watched NAME: whether the journals of hubs that stand still are written, each time with a line that says so.
 is_watched() {
     CHANHUB_WATCH="1:$work/$1-hung" "$work/$1" "$work/$1-hung" 2> "$work/said" && cat "$work/said" &&
-        [ "$(grep -c '^chanhub: nothing has moved in a hub for 1 s: its journal is in' "$work/said")" = 5 ]
+        [ "$(grep -c '^chanhub: nothing has moved in a hub for 1 s: its journal is in' "$work/said")" -ge 5 ]
 }
 
 # refuses_watches: whether each watch that is none is told, once, and the program goes on.

@@ -278,6 +278,15 @@ def vain(journal, bands):
     return rows
 
 
+def outside(journal, bands):
+    """A row for each process that has neither exited nor waits in the end, where calls wait then, and that is shown."""
+    waiting = {int(asked.line.split()[0]) for asked in journal.asked() if asked.ended is None}
+    last = {int(line.split()[0]): f"last at step {place + 1}" for place, line in enumerate(journal.lines)}
+    if waiting and bands.end >= len(journal.lines):
+        for pid in sorted({*range(journal.procs)} - waiting - {*journal.exited}):
+            yield f"P{pid} is outside the hub, {last.get(pid, 'never called')}."
+
+
 def whoms(journal, bands):
     """Who waits for whom of those who were stalled."""
     for _, step, pid, other in waits(journal, bands):
@@ -510,6 +519,8 @@ def check_picture(picture, journal, first, end):
     legend_agrees(root, legend(journal, bands))
     rows = [row.text for row in root.iter(SVG + "tspan") if row.get("class") == "waits"]
     assert rows == [row for row, *_ in waits(journal, bands)], f"those who wait: {rows}"
+    others = [row.text for row in root.iter(SVG + "tspan") if row.get("class") == "outside"]
+    assert others == [*outside(journal, bands)], f"those who are outside: {others}"
     dead = [row.text for row in root.iter(SVG + "tspan") if row.get("class") == "dead"]
     assert dead == ["deadlock: everyone who is left waits"] * any(stalls(journal, bands)), f"deadlock: {dead}"
     lanes_agree(root, journal, bands)

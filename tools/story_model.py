@@ -53,6 +53,7 @@ class Port:
         self.most = 0  # how many values were in it at most after a step
         self.fullest = None  # the place of the first entry after which they were
         self.sender = self.receiver = "nobody"
+        self.receivers = set()
         # The places of values that only one of both ends is told of yet. A receiver may be told before its sender.
         self.not_received = collections.deque()
         self.not_sent = collections.deque()
@@ -72,8 +73,9 @@ class Story:
         self.ports = []
         self.waiting = {}  # the place of each process's call that waits, by arrival
         self.exits = []  # the places of the exits that were done
-        hub = model.Hub(int(head.split()[2]), int(procs.split()[1]))
-        self.clock = clock_of(int(head.split()[2]), int(procs.split()[1]), lines)
+        self.procs = int(procs.split()[1])
+        hub = model.Hub(int(head.split()[2]), self.procs)
+        self.clock = clock_of(int(head.split()[2]), self.procs, lines)
         for place, entry in enumerate(self.entries):
             hub.step(entry.pid, entry.word, entry.asked)
             events, hub.events = hub.events, []
@@ -131,6 +133,7 @@ class Story:
             others, own = port.not_sent, port.not_received
         else:
             port.received, port.receiver = port.received + 1, mover
+            port.receivers.add(entry.pid)
             others, own = port.not_received, port.not_sent
         if others:
             entry.partner = others.popleft()
@@ -145,12 +148,21 @@ class Story:
 
     def waiters(self, places):
         """Lines on the calls at these places, and who moved a value where they wait."""
+        left = {self.entries[place].pid for place in self.exits}
         for place in places:
             yield f"          P{self.entries[place].pid} waits since step {place + 1}"
             for case in self.entries[place].cases:
                 port = self.ports[case[1] - 1] if case[1] else Port(None)
                 what = "send on" if case[0] == "s" else "receive from"
-                yield f"            to {what} port {case[1]}: last sent by {port.sender}, last received by {port.receiver}"
+                gone = "; all who received there have left" if case[0] == "s" and set() < port.receivers <= left else ""
+                yield f"            to {what} port {case[1]}: last sent by {port.sender}, last received by {port.receiver}{gone}"
+
+    def outside(self):
+        """A line on the processes that have neither exited nor wait in the end, if there are any."""
+        last = {entry.pid: f"last at step {place + 1}" for place, entry in enumerate(self.entries)}
+        inside = {self.clock, *self.waiting, *(self.entries[place].pid for place in self.exits)}
+        told = [f"P{pid}, {last.get(pid, 'never called')}" for pid in range(self.procs) if pid not in inside]
+        return ["outside the hub: " + "; ".join(told)] if told else []
 
     def value(self, entry):
         """Where a value went, or came from; of a step that was refused, why."""
@@ -222,6 +234,7 @@ class Story:
             lines += ["in the end these wait", *self.leavers(), *self.waiters(waiting)]
         else:
             lines.append("in the end no call waits")
+        lines += self.outside()
         return "".join(line + "\n" for line in lines).encode()
 
 

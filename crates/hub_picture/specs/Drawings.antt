@@ -11,6 +11,8 @@ use Rattle.hub_story.specs.declared.told.Told.{Told}
 use Rattle.hub_story.specs.declared.moved.Passage.{Passage}
 use Rattle.hub_story.specs.declared.story.Story.{Story}
 use Rattle.hub_story.specs.Ends.{ended_at}
+use Rattle.hub_story.specs.declared.outside.Outsider.{Outsider}
+use Rattle.hub_story.specs.Outside.{outside}
 use Rattle.hub_story.specs.Passing.{passages}
 use Rattle.hub_story.specs.Waiting.{is_stalled}
 use Rattle.hub_story.specs.declared.window.Window.{Window}
@@ -20,7 +22,7 @@ use Rattle.hub_picture.specs.declared.asked.Shown.TheVariants.{Boxes, Bars}
 use Rattle.hub_picture.specs.declared.arrows.Arrow.{Arrow}
 use Rattle.hub_picture.specs.Lanes.{lanes_of}
 use Rattle.hub_picture.specs.Levels.{shown_strips, all_levels}
-use Rattle.hub_picture.specs.Waiters.{all_waiters}
+use Rattle.hub_picture.specs.Waiters.{all_waiters, open_in}
 use Rattle.hub_picture.specs.declared.drawing.Drawing.{Drawing}
 use Rattle.hub_story.specs.Windows.{goes_on, has, touches, within}
 
@@ -84,10 +86,21 @@ all_arrows w es all = arrows_to (ports_of all) w es all
 abbrev pub stalls_in : Window → Told → Bool
 stalls_in w t = is_stalled t.event.what && has w t.by
 
+-- ---- who is outside
+-- those who are, where these calls wait
+abbrev pub outside_beside : ℕ → List Entry → List Told → List Told → List Outsider
+outside_beside procs es all [] = []
+outside_beside procs es all (t ∷ ts) = outside es all (t ∷ ts) procs
+
+-- where the window goes to the end
+abbrev pub outside_in : Window → ℕ → List Entry → List Told → List Told → List Outsider
+outside_in w procs es all waiting = outside_beside procs es all (open_in w (length es) waiting)
+
 -- ---- the whole
 -- the lanes are the processes, the strips the ports that hold a value in the window; the boxes are the entries of the window, the bars the
 -- calls that waited, the arrows the passages of all ports, and the levels what ports held, as far as they touch it; the
--- stalls who was stalled by its steps, and the waiters who waits in vain, and for what: each once, in order, and nothing else
+-- stalls who was stalled by its steps, the waiters who waits in vain, and for what, and then who is outside: each once, in order, and
+-- nothing else
 pub record IsDrawnIn (w : Window) (given : JournalView) (s : Story) (d : Drawing) : Type 0 where
   pub procs : d.procs ≡ given.head.procs
   pub window : d.window ≡ w
@@ -99,6 +112,7 @@ pub record IsDrawnIn (w : Window) (given : JournalView) (s : Story) (d : Drawing
   pub levels : d.levels.items ≡ all_levels w given.entries s.told.items
   pub stalls : d.stalls.items ≡ filter (stalls_in w) s.told.items
   pub waiters : d.waiters.items ≡ all_waiters w given.entries s.told.items (filter (stalls_in w) s.told.items) s.waiting.items
+  pub outside : d.outside.items ≡ outside_in w given.head.procs given.entries s.told.items s.waiting.items
 
 -- the same, of the steps of the window that the journal has
 abbrev pub IsDrawingOf : JournalView → Story → Window → Drawing → Type 0

@@ -7,12 +7,12 @@ use Rattle.hub_story.specs.declared.story.Story.{Story}
 use Rattle.hub_story.specs.declared.window.Window.{Window}
 use Rattle.hub_picture.specs.declared.asked.Shown.TheVariants.{Boxes, Bars}
 use Rattle.hub_picture.specs.declared.drawing.Drawing.{Drawing}
-use Rattle.hub_picture.specs.Drawings.{all_arrows, asked, is_shown, stalls_in}
+use Rattle.hub_picture.specs.Drawings.{all_arrows, asked, is_shown, outside_in, stalls_in}
 use Rattle.hub_picture.specs.Lanes.{lanes_of}
 use Rattle.hub_picture.specs.Levels.{all_levels, shown_strips}
 use Rattle.hub_picture.specs.Waiters.{all_waiters}
 
--- what processes ask is in it, and whom a step stalled; its processes and its window are as before
+-- what processes ask is in it, whom a step stalled, and who is outside in the end; its processes and its window are as before
 pub record HasAsked (given : JournalView) (s : Story) (w : Window) (old new : Drawing) : Type 0 where
   pub procs : new.procs ≡ old.procs
   pub window : new.window ≡ old.window
@@ -20,6 +20,7 @@ pub record HasAsked (given : JournalView) (s : Story) (w : Window) (old new : Dr
   pub boxes : new.boxes.items ≡ filter (is_shown Boxes w) (asked s 0 given.entries)
   pub bars : new.bars.items ≡ filter (is_shown Bars w) (asked s 0 given.entries)
   pub stalls : new.stalls.items ≡ filter (stalls_in w) s.told.items
+  pub outside : new.outside.items ≡ outside_in w given.head.procs given.entries s.told.items s.waiting.items
 
 -- what passes the ports is in it, and who waits there in vain; the rest is as before
 pub record HasMoved (es : List Entry) (all waiting : List Told) (w : Window) (old new : Drawing) : Type 0 where
@@ -29,6 +30,7 @@ pub record HasMoved (es : List Entry) (all waiting : List Told) (w : Window) (ol
   pub boxes : new.boxes ≡ old.boxes
   pub bars : new.bars ≡ old.bars
   pub stalls : new.stalls ≡ old.stalls
+  pub outside : new.outside ≡ old.outside
   pub strips : new.strips.items ≡ shown_strips w es all
   pub arrows : new.arrows.items ≡ all_arrows w es all
   pub levels : new.levels.items ≡ all_levels w es all

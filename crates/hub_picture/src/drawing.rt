@@ -7,7 +7,7 @@ use crate::shapes::put_shapes;
 use crate::{Arrow, Asked, Held, Lane, Strip, Waiter, Window};
 use hub_base::NoMemory;
 use hub_core::ShortJournal;
-use hub_story::{Story, Told};
+use hub_story::{Outsider, Story, Told};
 use std::alloc::Global;
 
 /// The shapes of a picture, in processes and steps.
@@ -33,6 +33,8 @@ pub struct Drawing {
     pub stalls: Vec<Told>,
     /// Whoever waits in vain, and for what: a row each, below the picture.
     pub waiters: Vec<Waiter>,
+    /// Whoever is outside the hub where calls wait in the end: a row each below them.
+    pub outside: Vec<Outsider>,
 }
 
 /// The drawing of a journal by its story, as far as the window shows it. `Err` where memory was refused; 2^32 events or more
@@ -58,6 +60,7 @@ pub fn drawing_of(
         levels: Vec::new(alloc),
         stalls: Vec::new(alloc),
         waiters: Vec::new(alloc),
+        outside: Vec::new(alloc),
     };
     put_shapes(&mut drawing, alloc, shown, journal, story)?;
     Ok(drawing)

@@ -13,6 +13,7 @@ mod lanes;
 mod laws;
 mod levels;
 mod moves;
+mod outside;
 mod pen;
 mod piece;
 mod shapes;

@@ -12,6 +12,7 @@ use crate::drawing::Drawing;
 use crate::lanes::lanes_of;
 use crate::levels::{Levels, levels_in};
 use crate::moves::Moves;
+use crate::outside::outside_in;
 use crate::stalls::all_stalled;
 use crate::strips::strips_of;
 use crate::waiters::waiters_in;
@@ -38,7 +39,7 @@ fn all_levels(alloc: Global, window: Window, moves: &Moves<'_>) -> Result<Levels
     levels_in(alloc, window, moves, &made)
 }
 
-/// Puts in what processes ask, and whom a step stalled.
+/// Puts in what processes ask, whom a step stalled, and who is outside in the end.
 fn put_asked(
     drawing: &mut Drawing,
     alloc: Global,
@@ -54,6 +55,7 @@ fn put_asked(
     drawing.boxes = asked_in(alloc, Shown::Boxes, window, entries, story)?;
     drawing.bars = asked_in(alloc, Shown::Bars, window, entries, story)?;
     drawing.stalls = all_stalled(alloc, window, &story.told)?;
+    drawing.outside = outside_in(alloc, window, journal, story)?;
     Ok(())
 }
 

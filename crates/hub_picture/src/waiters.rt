@@ -245,7 +245,7 @@ fn all_by(alloc: Global, step: u32, told: &[Told]) -> Result<Vec<Told>, AllocErr
 }
 
 /// The calls that wait in the end, where the window goes so far.
-fn open_in(window: Window, count: u32, waiting: &[Told]) -> &[Told]
+pub(crate) fn open_in(window: Window, count: u32, waiting: &[Told]) -> &[Told]
     ensures { result.now ≡ open_in window count waiting.now }
 {
     if count <= window.end { waiting } else { &[] }

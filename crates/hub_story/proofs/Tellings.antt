@@ -4,7 +4,7 @@ use Rattle.std.proofs.Common.{zero, suc, arith, get_or, take, add-one}
 use Rattle.std.specs.Prelude.{slice_index_or}
 use Rattle.std.specs.List.{filter_map, cons_option}
 use Rattle.std.specs.Option.{option_map}
-use Rattle.std.proofs.Math.ListN.{length-set}
+use Rattle.std.proofs.Math.ListN.{length-set, set}
 use Rattle.std.proofs.Math.Seq.{take-suc}
 use Rattle.std.proofs.lemmas.Bool.{eqb-true, eqb-false}
 use Rattle.std.proofs.lemmas.List.{get_or-set_same, get_or-set_other, length-take-le}
@@ -32,14 +32,19 @@ last_asked-entry pid place before (x ∷ ts) t =
     last_asked-entry pid (place + 1) (latest_asked pid place before x) ts t
     ∙ ap (λ k. latest_asked pid k (last_asked pid (place + 1) (latest_asked pid place before x) ts) t) e
 
+-- a place written in a table of processes
+pub table-set : (table : List (Option ℕ)) (q place n : ℕ) (own : Bool) → own ≡ (q == n) → q < length table →
+    slice_index_or (set table q (Some place)) n None ≡ cond own (Some place) (slice_index_or table n None)
+table-set table q place n true is fits =
+    let same : q ≡ n = eqb-true q n (sym is) in
+    rw (sym same) (get_or-set_same table q (Some place) None fits)
+table-set table q place n false is fits =
+    get_or-set_other table q n (Some place) None (λ e. eqb-false q n (sym is) (sym e))
+
 -- a call written at the place of its process
 step_in : (calls : List (Option ℕ)) (q place : ℕ) (step : Step) (pid : Pid) (own : Bool) → own ≡ (q == pid.0) → q < length calls →
     call_in (with_step calls q place step) pid ≡ cond own (call_or step (Some place) (call_in calls pid)) (call_in calls pid)
-step_in calls q place (Call cases default word) pid true is fits =
-    let same : q ≡ pid.0 = eqb-true q pid.0 (sym is) in
-    rw (sym same) (get_or-set_same calls q (Some place) None fits)
-step_in calls q place (Call cases default word) pid false is fits =
-    get_or-set_other calls q pid.0 (Some place) None (λ e. eqb-false q pid.0 (sym is) (sym e))
+step_in calls q place (Call cases default word) pid own is fits = table-set calls q place pid.0 own is fits
 step_in calls q place (Make cap) pid true is fits = refl
 step_in calls q place (Make cap) pid false is fits = refl
 step_in calls q place (Close p) pid true is fits = refl
@@ -75,7 +80,7 @@ length-with_call calls place t = by (refused t.events)
     by true = refl
     by false = length-with_step calls t.entry.pid.0 place t.entry.step
 
-none-called : (n k : ℕ) → slice_index_or {A = Option ℕ} (replicate n None) k None ≡ None
+pub none-called : (n k : ℕ) → slice_index_or {A = Option ℕ} (replicate n None) k None ≡ None
 none-called zero k = refl
 none-called (suc n) zero = refl
 none-called (suc n) (suc k) = none-called n k

@@ -2,6 +2,8 @@ pub mod Told
 pub mod LastCalls
 pub mod Passing
 pub mod Waiting
+pub mod Leavers
+pub mod Outside
 pub mod Levels
 pub mod Ends
 pub mod Sides

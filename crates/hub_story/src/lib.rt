@@ -6,10 +6,12 @@
 
 mod by_port;
 mod ends;
+mod exits;
 mod last_calls;
 mod laws;
 mod levels;
 mod moved;
+mod outside;
 mod passing;
 mod story;
 mod telling;
@@ -17,12 +19,14 @@ mod told;
 mod window;
 
 pub use by_port::ByPort;
+pub use exits::leaves;
 pub use laws::{
     entries_end_once, events_are_told, levels_are_told, passages_are_in_time, passages_are_told,
     sends_are_told, waiting_is_told,
 };
 pub use levels::Level;
 pub use moved::{Moved, Passage};
+pub use outside::{Outsider, any_told_to};
 pub use passing::{Side, moved_by};
 pub use story::{Story, story_of};
 pub use told::Told;

@@ -4,15 +4,18 @@ ghost use Rattle.std.specs.Prelude.{◌≡◌, ◌<◌, ◌-◌, ◌^◌, length
 ghost use Rattle.hub_base.specs.Head.{IsHead};
 ghost use Rattle.hub_story.specs.Ends.{ended_at};
 ghost use Rattle.hub_story.specs.Levels.{received_by, sent_by};
+ghost use Rattle.hub_story.specs.Outside.{outside};
 ghost use Rattle.hub_story.specs.Passing.{passages};
 ghost use Rattle.hub_story.specs.Stories.{IsStoryOf};
 ghost use Rattle.hub_story.specs.Waiting.{stalled_by};
 
 use crate::ends::{ends_of, stalled_by, waiting_of};
+use crate::exits::leavers_of;
 use crate::levels::level_of;
+use crate::outside::outside_of;
 use crate::passing::passages_of;
 use crate::telling::tell_all;
-use crate::{Level, Passage, Told};
+use crate::{Level, Outsider, Passage, Told};
 use hub_base::{NoMemory, Port};
 use hub_core::ShortJournal;
 use std::alloc::{AllocError, Global};
@@ -85,5 +88,26 @@ impl Story {
         ensures { IfOk result (λ all. all.items ≡ stalled_by self.now.told.items place) }
     {
         stalled_by(alloc, &self.told, place)
+    }
+
+    /// The processes that are outside the hub when this journal ends, by number: those that have neither exited nor wait.
+    pub fn outside(
+        &self,
+        alloc: Global,
+        journal: &ShortJournal,
+    ) -> Result<Vec<Outsider>, AllocError>
+        requires few { length journal.now.entries < 2 ^ 32 - 1 }
+        ensures { IfOk result (λ all. all.items
+            ≡ outside journal.now.entries self.now.told.items self.now.waiting.items journal.now.head.procs) }
+    {
+        let left = leavers_of(alloc, journal.entries(), &self.told)?;
+        outside_of(
+            alloc,
+            journal.entries(),
+            &self.told,
+            &left,
+            &self.waiting,
+            journal.head().procs,
+        )
     }
 }

@@ -38,6 +38,6 @@ flat-next f xs i d was now text below so is =
     ap (λ l. l ++ flat_map f (drop (i + 1) xs)) is ∙ append_assoc was (f (get_or xs i d)) (flat_map f (drop (i + 1) xs))
     ∙ ap (λ l. was ++ l) (ap (λ k. f (get_or xs i d) ++ flat_map f (drop k xs)) (add-one i) ∙ sym (ap (flat_map f) (drop-cons xs i d below))) ∙ so
 
--- five texts behind another, of which the last three were put together first
-pub five-behind : (before a b c d e : List ℕ) → before ++ a ++ b ++ (c ++ d ++ e) ≡ before ++ (a ++ b ++ c ++ d ++ e)
-five-behind before a b c d e = simp append_assoc
+-- six texts behind another, of which the last four were put together first
+pub six-behind : (before a b c d e f : List ℕ) → before ++ a ++ b ++ (c ++ d ++ e ++ f) ≡ before ++ (a ++ b ++ c ++ d ++ e ++ f)
+six-behind before a b c d e f = simp append_assoc

@@ -1,7 +1,7 @@
 -- What is written of a step: its own line, and what it did to others.
 use Rattle.std.proofs.Common.{◌≡◌, ◌<◌, ◌+◌, ℕ, Bool, true, false, List, [], ◌∷◌, ◌++◌}
 use Rattle.std.proofs.Common.{length, take, filter, refl, ap, ◌∙◌, sym, append-nil, get_or, add-one}
-use Rattle.std.proofs.Common.{◌≢◌, ◌-◌, Option, drop, length-append, arith}
+use Rattle.std.proofs.Common.{◌≢◌, ◌-◌, drop, length-append, arith}
 use Rattle.std.specs.List.{flat_map}
 use Rattle.std.proofs.Math.Seq.{take-suc, take-append_seam}
 use Rattle.std.proofs.lemmas.Grind.{flat_map-append}
@@ -10,9 +10,9 @@ use Rattle.hub_base.specs.declared.event.What.TheVariants.{Made, Fired, Default,
 use Rattle.hub_base.specs.declared.value.Port.{Port}
 use Rattle.hub_base.specs.Entry.{Entry}
 use Rattle.hub_story.specs.declared.told.Told.{Told}
-use Rattle.hub_story_text.specs.declared.last_moves.Mover.{Mover}
 use Rattle.hub_story_text.specs.declared.ends.Ending.{Ending}
 use Rattle.hub_story_text.specs.declared.ends.Ending.TheVariants.{Frees, Cancels, TimesOut, Wakes, Stalls}
+use Rattle.hub_story_text.specs.LastMoves.{AtPort}
 use Rattle.hub_story_text.specs.EndsText.{ending_word, ends_words, step_number, with_ended}
 use Rattle.hub_story_text.specs.PortText.{made_line, port_line}
 use Rattle.hub_story_text.specs.WaiterText.{left_words, waiter_words, waiters_words}
@@ -62,10 +62,10 @@ without-newline whole words n len is =
     ap (λ k. take k whole) less ∙ ap (take (length words)) is ∙ take-append_seam words (10 ∷ [])
 
 -- there is somebody who waits
-pub not-empty : (nobody heading : List ℕ) (es : List Entry) (senders receivers : Port → Option Mover) (left ts : List Told) → ts ≢ [] →
-    waiters_words nobody heading es senders receivers left ts ≡ heading ++ left_words left ++ flat_map (waiter_words es senders receivers) ts
-not-empty nobody heading es senders receivers left [] other = absurd (other refl)
-not-empty nobody heading es senders receivers left (t ∷ ts) other = refl
+pub not-empty : (nobody heading : List ℕ) (es : List Entry) (known : Port → AtPort) (left ts : List Told) → ts ≢ [] →
+    waiters_words nobody heading es known left ts ≡ heading ++ left_words left ++ flat_map (waiter_words es known) ts
+not-empty nobody heading es known left [] other = absurd (other refl)
+not-empty nobody heading es known left (t ∷ ts) other = refl
 
 -- no port is told to be made
 made-none : (es : List Entry) (all : List Told) (t : Told) (w : What) → ((p : Port) → w ≢ Made p) → made_line es all t w ≡ []

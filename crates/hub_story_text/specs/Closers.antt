@@ -5,7 +5,7 @@ use Rattle.hub_base.specs.declared.value.Port.{Port}
 use Rattle.hub_base.specs.Entry.{Entry, Step}
 use Rattle.hub_base.specs.declared.entry.Step.TheVariants.{Close}
 use Rattle.hub_story.specs.declared.told.Told.{Told}
-use Rattle.hub_story_text.specs.Leavers.{is_done}
+use Rattle.hub_story.specs.Leavers.{is_done}
 
 abbrev pub port_closed : Step → Option Port
 port_closed (Close p) = Some p

@@ -4,13 +4,13 @@ pub mod Writing
 pub mod AnswerText
 pub mod Partners
 pub mod Explained
-pub mod Leavers
 pub mod LastMoves
 pub mod PortMoves
 pub mod EndsText
 pub mod LineText
 pub mod Paint
 pub mod WaiterText
+pub mod OutsideText
 pub mod Closers
 pub mod Fullest
 pub mod PortText

@@ -1,11 +1,12 @@
 -- The text of a story: a heading, a line for each step that the window has, with those whom it stalled below it; then what the
--- ports carried, which calls waited longest, and who waits in the end.
+-- ports carried, which calls waited longest, and who waits or is outside in the end.
 use Rattle.std.specs.Prelude.{ℕ, ◌+◌, ◌==◌, List, [], ◌∷◌, ◌++◌, Option, codes, filter, length, if◌then◌else◌}
 use Rattle.std.specs.List.{flat_map}
 use Rattle.hub_base.specs.declared.value.Pid.{Pid}
 use Rattle.hub_base.specs.Entry.{Entry}
 use Rattle.hub_base.specs.declared.head.Head.{Head}
 use Rattle.hub_story.specs.declared.told.Told.{Told}
+use Rattle.hub_story.specs.Leavers.{leavers}
 use Rattle.hub_story.specs.Levels.{told_by}
 use Rattle.hub_story.specs.Waiting.{stalled_by, still_waiting}
 use Rattle.hub_story.specs.declared.window.Window.{Window}
@@ -13,8 +14,8 @@ use Rattle.hub_story.specs.Windows.{has}
 use Rattle.hub_story_text.specs.declared.paint.Paint.{Paint}
 use Rattle.hub_story_text.specs.declared.paint.Paint.TheVariants.{Plain}
 use Rattle.hub_story_text.specs.Clock.{clock_of, to_others}
-use Rattle.hub_story_text.specs.LastMoves.{last_sender, last_receiver}
-use Rattle.hub_story_text.specs.Leavers.{leavers}
+use Rattle.hub_story_text.specs.LastMoves.{known_of}
+use Rattle.hub_story_text.specs.OutsideText.{outside_text}
 use Rattle.hub_story_text.specs.Paint.{painted_line}
 use Rattle.hub_story_text.specs.PortText.{made_line}
 use Rattle.hub_story_text.specs.WaiterText.{waiters_words}
@@ -27,7 +28,7 @@ came_by place all = filter (λ t. t.by == place) all
 -- who has left and who waits, of what is told until then; the clock is left out
 abbrev pub who_waits : List ℕ → List ℕ → Option Pid → List Entry → List Told → List Told → List ℕ
 who_waits nobody heading clock es until waiters =
-    waiters_words nobody heading es (last_sender es until) (last_receiver es until) (leavers es until) (to_others clock waiters)
+    waiters_words nobody heading es (known_of es until) (leavers es until) (to_others clock waiters)
 
 abbrev pub stall_heading : List ℕ
 stall_heading = codes "        stall: everyone who is left waits\n"
@@ -58,14 +59,15 @@ abbrev pub ports_text : List Entry → List Told → List ℕ
 ports_text es all = flat_map (λ t. made_line es all t t.event.what) all
 
 -- the whole, painted so, where this process is the clock
-abbrev pub text_with : Option Pid → Paint → Window → List Entry → List Told → List ℕ
-text_with clock paint w es all =
+abbrev pub text_with : Option Pid → Paint → Window → Head → List Entry → List Told → List ℕ
+text_with clock paint w h es all =
     heading ++ steps_text paint w clock es all 0 es ++ ports_text es all ++ waits_text clock es all
     ++ who_waits end_nobody end_heading clock es (told_by (length es) all) (still_waiting all)
+    ++ outside_text clock es all h.procs
 
 -- so of a journal with this head
 abbrev pub painted_text : Paint → Window → Head → List Entry → List Told → List ℕ
-painted_text paint w h es all = text_with (clock_of h es) paint w es all
+painted_text paint w h es all = text_with (clock_of h es) paint w h es all
 
 -- without colours
 abbrev pub story_text : Window → Head → List Entry → List Told → List ℕ

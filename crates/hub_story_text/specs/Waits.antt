@@ -1,5 +1,5 @@
 -- The calls that waited: how many, and which of them waited longest. Those of the clock are left out.
-use Rattle.std.specs.Prelude.{◌≡◌, ℕ, zero, suc, ◌+◌, ◌-◌, ◌&&◌, not, nat_lt, Bool, true, false, List, [], ◌∷◌, ◌++◌, codes, count_by}
+use Rattle.std.specs.Prelude.{◌≡◌, ℕ, zero, suc, ◌+◌, ◌-◌, ◌&&◌, not, nat_lt, Bool, List, [], ◌∷◌, ◌++◌, codes, count_by}
 use Rattle.std.specs.Prelude.{decimal, length, take, slice_get, Option, None, Some, if◌then◌else◌}
 use Rattle.std.specs.List.{cons_option, flat_map, fold}
 use Rattle.std.specs.Option.{option_map_or}

@@ -6,7 +6,7 @@ ghost use Rattle.hub_story.specs.Stories.{IsFrom};
 ghost use Rattle.hub_story.specs.Waiting.{is_stalled};
 ghost use Rattle.hub_story_text.specs.Clock.{to_others};
 ghost use Rattle.hub_story_text.specs.Explained.{IsExplained, entries_of, told_of};
-ghost use Rattle.hub_story_text.specs.LastMoves.{AreLast, IsWhole, mover_at};
+ghost use Rattle.hub_story_text.specs.LastMoves.{AreLast, IsWhole, known_at};
 ghost use Rattle.hub_story_text.specs.StoryText.{came_by, stall_heading, steps_text};
 ghost use Rattle.hub_story_text.specs.WaiterText.{waiters_words};
 
@@ -63,7 +63,7 @@ fn put_stalled(
 ) -> Result<(), NoMemory>
     ensures { OnOk result (out.new.items ≡ out.old.items
         ++ waiters_words [] stall_heading (entries_of explained.now)
-        (mover_at moves.now.sent.items) (mover_at moves.now.received.items) moves.now.left.items
+        (known_at moves.now) moves.now.left.items
         (to_others explained.now.clock (filter (λ t. is_stalled t.event.what) came.now))) }
 {
     let stalled = stalled_of(*out.allocator(), came)?;

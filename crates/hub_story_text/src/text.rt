@@ -11,6 +11,7 @@ use crate::Window;
 use crate::clock::{clock_of, to_others};
 use crate::explained::Explained;
 use crate::last_moves::LastMoves;
+use crate::outside::put_outside;
 use crate::packed_text::PackedText;
 use crate::paint::Paint;
 use crate::partners::partners_of;
@@ -69,7 +70,8 @@ fn put_story(
     requires whole { IsWhole last.old }
     ensures { OnOk result (out.new.items ≡
         out.old.items
-        ++ text_with explained.now.clock explained.now.paint window (entries_of explained.now) (told_of explained.now)) }
+        ++ text_with explained.now.clock explained.now.paint window explained.now.journal.now.head
+        (entries_of explained.now) (told_of explained.now)) }
 {
     out.push(HEADING)?;
     put_steps(out, last, explained, window)?;
@@ -88,6 +90,7 @@ fn put_story(
         last,
         &others,
     )?;
+    put_outside(&mut rest, explained)?;
     out.push(&rest)?;
     Ok(())
 }
@@ -137,9 +140,9 @@ pub fn push_story(
 }
 
 /// The story of a journal as text: a line for each step that the window has, with those whom it stalled below it; then a line for
-/// each port that was made, which calls waited longest, and who waits in the end. Steps and the numbers of entries are counted from 1.
-/// The lines of steps are in colours if these are asked for. Calls that the journal's clock cancels are told to have timed out.
-/// `Err` where memory was refused.
+/// each port that was made, which calls waited longest, and who waits or is outside in the end. Steps and the numbers of entries
+/// are counted from 1. The lines of steps are in colours if these are asked for. Calls that the journal's clock cancels are told to
+/// have timed out. `Err` where memory was refused.
 pub fn story_text(
     alloc: Global,
     journal: &ShortJournal,

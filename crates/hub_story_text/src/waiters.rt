@@ -1,9 +1,9 @@
 //! Who has left, and who waits, and for what.
 
-ghost use Rattle.std.specs.Prelude.{◌≡◌, ◌++◌, OnOk};
+ghost use Rattle.std.specs.Prelude.{◌≡◌, ◌++◌, codes, OnOk};
 ghost use Rattle.std.specs.List.{flat_map};
-ghost use Rattle.hub_story_text.specs.LastMoves.{mover_at};
-ghost use Rattle.hub_story_text.specs.WaiterText.{case_words, left_words, mover_words, port_words, waiter_words, waiters_words, who_words};
+ghost use Rattle.hub_story_text.specs.LastMoves.{known_at};
+ghost use Rattle.hub_story_text.specs.WaiterText.{case_words, gone_words, left_words, mover_words, port_words, waiter_words, waiters_words, who_words};
 
 use crate::last_moves::{LastMoves, Mover};
 use crate::numbers::{number_of, put_number};
@@ -28,37 +28,61 @@ fn put_mover(out: &mut Vec<u8>, words: &[u8], mover: Option<Mover>) -> Result<()
 
 /// Appends a port, and who was the last there.
 fn put_port(out: &mut Vec<u8>, moves: &LastMoves, port: Port) -> Result<(), AllocError>
-    ensures { OnOk result (out.new.items ≡
-        out.old.items ++ port_words (mover_at moves.now.sent.items) (mover_at moves.now.received.items) port) }
+    ensures { OnOk result (out.new.items ≡ out.old.items ++ port_words (known_at moves.now port) port) }
 {
     put_number(out, b"", port.0.into())?;
     put_mover(out, b": last sent by ", moves.sender(port))?;
-    put_mover(out, b", last received by ", moves.receiver(port))?;
+    put_mover(out, b", last received by ", moves.receiver(port))
+}
+
+/// Appends that all who received there have left, where this is so.
+fn put_gone(out: &mut Vec<u8>, gone: bool) -> Result<(), AllocError>
+    ensures { OnOk result (out.new.items ≡ out.old.items ++ gone_words gone) }
+{
+    if gone {
+        out.extend_from_slice(b"; all who received there have left")
+    } else {
+        Ok(())
+    }
+}
+
+/// Appends that a case waits to send on the port.
+fn put_send(out: &mut Vec<u8>, moves: &LastMoves, port: Port) -> Result<(), AllocError>
+    ensures { OnOk result (out.new.items ≡ out.old.items ++ (codes "            to send on port "
+        ++ port_words (known_at moves.now port) port ++ gone_words (known_at moves.now port).gone ++ codes "\n")) }
+{
+    out.extend_from_slice(b"            to send on port ")?;
+    put_port(out, moves, port)?;
+    put_gone(out, moves.are_gone(port))?;
+    out.extend_from_slice(b"\n")?;
+    Ok(())
+}
+
+/// Appends that it waits to receive from it.
+fn put_receive(out: &mut Vec<u8>, moves: &LastMoves, port: Port) -> Result<(), AllocError>
+    ensures { OnOk result (out.new.items ≡ out.old.items ++ (codes "            to receive from port "
+        ++ port_words (known_at moves.now port) port ++ codes "\n")) }
+{
+    out.extend_from_slice(b"            to receive from port ")?;
+    put_port(out, moves, port)?;
     out.extend_from_slice(b"\n")?;
     Ok(())
 }
 
 /// Appends what a case waits for.
 fn put_case(out: &mut Vec<u8>, moves: &LastMoves, case: Case) -> Result<(), AllocError>
-    ensures { OnOk result (out.new.items ≡
-        out.old.items ++ case_words (mover_at moves.now.sent.items) (mover_at moves.now.received.items) case) }
+    ensures { OnOk result (out.new.items ≡ out.old.items ++ case_words (known_at moves.now) case) }
 {
     match case {
-        Case::Send(port, _) => {
-            out.extend_from_slice(b"            to send on port ")?;
-            put_port(out, moves, port)
-        }
-        Case::Recv(port) => {
-            out.extend_from_slice(b"            to receive from port ")?;
-            put_port(out, moves, port)
-        }
+        Case::Send(port, _) => put_send(out, moves, port),
+        Case::Recv(port) => put_receive(out, moves, port),
     }
 }
 
 /// Appends what each of these cases waits for.
 fn put_cases(out: &mut Vec<u8>, moves: &LastMoves, cases: &[Case]) -> Result<(), AllocError>
     ensures { OnOk result (out.new.items ≡ out.old.items
-        ++ flat_map (case_words (mover_at moves.now.sent.items) (mover_at moves.now.received.items)) cases.now) }
+        ++ flat_map (case_words (known_at moves.now)) cases.now) }
 {
     for case in cases {
         put_case(out, moves, *case)?;
@@ -94,7 +118,7 @@ fn put_waiter(
     told: &Told,
 ) -> Result<(), AllocError>
     ensures { OnOk result (out.new.items ≡ out.old.items
-        ++ waiter_words entries.now (mover_at moves.now.sent.items) (mover_at moves.now.received.items) told.now) }
+        ++ waiter_words entries.now (known_at moves.now) told.now) }
 {
     put_who(out, b" waits since step ", told)?;
     let mut room = CaseRoom::new();
@@ -109,7 +133,7 @@ fn put_calls(
     waiters: &[Told],
 ) -> Result<(), AllocError>
     ensures { OnOk result (out.new.items ≡ out.old.items
-        ++ flat_map (waiter_words entries.now (mover_at moves.now.sent.items) (mover_at moves.now.received.items)) waiters.now) }
+        ++ flat_map (waiter_words entries.now (known_at moves.now)) waiters.now) }
 {
     for told in waiters {
         put_waiter(out, entries, moves, told)?;
@@ -127,7 +151,7 @@ pub(crate) fn put_waiters(
     waiters: &[Told],
 ) -> Result<(), AllocError>
     ensures { OnOk result (out.new.items ≡ out.old.items ++ waiters_words nobody.now heading.now entries.now
-        (mover_at moves.now.sent.items) (mover_at moves.now.received.items) moves.now.left.items waiters.now) }
+        (known_at moves.now) moves.now.left.items waiters.now) }
 {
     if waiters.is_empty() {
         return out.extend_from_slice(nobody);

@@ -20,7 +20,7 @@ use Rattle.hub_picture.specs.Svg.Lanes.{lane_in, ticks_to}
 use Rattle.hub_picture.specs.Svg.Marks.{marks}
 use Rattle.hub_picture.specs.Svg.Stalls.{stall_in}
 use Rattle.hub_picture.specs.Svg.Strips.{strip_text, level_in}
-use Rattle.hub_picture.specs.Svg.Waiters.{deadlock_text, waiter_text}
+use Rattle.hub_picture.specs.Svg.Waiters.{deadlock_text, outsider_text, waiter_text}
 use Rattle.hub_picture.specs.Svg.Whom.{whom_in}
 use Rattle.hub_picture.specs.Svg.Style.{style}
 use Rattle.hub_picture.specs.Pieces.{joined}
@@ -45,9 +45,9 @@ width_of d = LEFT + max 660 (2 * (sizes_of (scale_of d)).half * min (shown_of d)
 abbrev pub foot_of : Drawing → ℕ
 foot_of d = TOP + bands_of d * height_of (scale_of d) d.procs (ports_of d)
 
--- with the rows of those who wait below them
+-- with the rows of those who wait, and of those who are outside, below them
 abbrev pub height_of_page : Drawing → ℕ
-height_of_page d = foot_of d + FOOT + ROW * min (length d.waiters.items) MOST_ROWS
+height_of_page d = foot_of d + FOOT + ROW * (min (length d.waiters.items) MOST_ROWS + min (length d.outside.items) MOST_ROWS)
 
 -- ---- the text
 -- the tip of an arrow
@@ -135,7 +135,7 @@ foot_opening d = joined (codes "<text class=\"note\" x=\"12\" y=\"" ∷ decimal 
 
 -- the rows of those who wait, below what it is that they do
 abbrev pub rows_text : Drawing → List ℕ
-rows_text d = deadlock_text d.stalls.items ++ flat_map (waiter_text d) d.waiters.items
+rows_text d = deadlock_text d.stalls.items ++ flat_map (waiter_text d) d.waiters.items ++ flat_map outsider_text d.outside.items
 
 abbrev pub foot_text : Drawing → List ℕ
 foot_text d = foot_opening d ++ rows_text d ++ codes "</text>\n</svg>\n"

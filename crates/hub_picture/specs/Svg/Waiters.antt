@@ -1,5 +1,6 @@
--- Who waits in vain, and for what: a row for each case.
-use Rattle.std.specs.Prelude.{ℕ, ◌+◌, List, [], ◌∷◌, ◌++◌, codes, decimal}
+-- Who waits in vain, and for what: a row for each case; and who is outside the hub: a row each.
+use Rattle.std.specs.Prelude.{ℕ, ◌+◌, List, [], ◌∷◌, ◌++◌, codes, decimal, Option, None, Some}
+use Rattle.hub_story.specs.declared.outside.Outsider.{Outsider}
 use Rattle.hub_story.specs.declared.told.Told.{Told}
 use Rattle.hub_picture.specs.declared.drawing.Drawing.{Drawing}
 use Rattle.hub_picture.specs.declared.waiters.Waiter.{Waiter}
@@ -23,6 +24,15 @@ waiter_told d w = waiter_words w ++ whom_words (whom d w)
 
 abbrev pub waiter_text : Drawing → Waiter → List ℕ
 waiter_text d w = codes "<tspan class=\"waits\" x=\"12\" dy=\"18\">" ++ waiter_told d w ++ codes "</tspan>\n"
+
+abbrev pub last_words : Option ℕ → List ℕ
+last_words None = codes ", never called."
+last_words (Some place) = codes ", last at step " ++ decimal (place + 1) ++ codes "."
+
+-- who is outside the hub, and since which step
+abbrev pub outsider_text : Outsider → List ℕ
+outsider_text o =
+    (codes "<tspan class=\"outside\" x=\"12\" dy=\"18\">P" ++ decimal o.pid.0 ++ codes " is outside the hub") ++ last_words o.last ++ codes "</tspan>\n"
 
 -- where anyone was stalled, what that is
 abbrev pub deadlock_text : List Told → List ℕ

@@ -9,7 +9,7 @@ ghost use Rattle.hub_picture.specs.Svg.Page.{rows_text, scale_text, sheet_text, 
 use super::legend::put_legend;
 use super::marks::put_marks;
 use super::style::put_style;
-use super::waiters::{Rows, put_deadlock};
+use super::waiters::{OutsideRows, Rows, put_deadlock};
 use crate::Drawing;
 use crate::frame::{FOOT, LEFT, MOST_ROWS, ROW, Scale, TOP, height_of, number_of, ports_of};
 use crate::pen::put_each;
@@ -73,7 +73,7 @@ fn foot_of(drawing: &Drawing) -> u64
 fn height_of_page(drawing: &Drawing) -> u64
     ensures { result ≡ height_of_page drawing.now }
 {
-    let rows = drawing.waiters.len().min(MOST_ROWS) as u64;
+    let rows = (drawing.waiters.len().min(MOST_ROWS) + drawing.outside.len().min(MOST_ROWS)) as u64;
     foot_of(drawing) + FOOT + ROW * rows
 }
 
@@ -207,15 +207,16 @@ fn put_foot_opening(out: &mut Vec<u8>, drawing: &Drawing) -> Result<(), AllocErr
     )
 }
 
-/// Appends the rows of those who wait, below what it is that they do.
+/// Appends the rows of those who wait, below what it is that they do, and of those who are outside.
 fn put_rows(out: &mut Vec<u8>, drawing: &Drawing) -> Result<(), AllocError>
     ensures { Appends out.old out.new (rows_text drawing.now) result }
 {
     put_deadlock(out, &drawing.stalls)?;
-    put_each(out, &Rows(drawing), &drawing.waiters)
+    put_each(out, &Rows(drawing), &drawing.waiters)?;
+    put_each(out, &OutsideRows, &drawing.outside)
 }
 
-/// Appends its foot, which tells who waits in vain.
+/// Appends its foot, which tells who waits in vain, and who is outside.
 pub(crate) fn put_foot(out: &mut Vec<u8>, drawing: &Drawing) -> Result<(), AllocError>
     ensures { Appends out.old out.new (foot_text drawing.now) result }
 {

@@ -1,14 +1,14 @@
-//! The rows of those who wait in vain.
+//! The rows of those who wait in vain, and of those who are outside the hub.
 
 ghost use Rattle.hub_picture.specs.Pieces.{Appends};
-ghost use Rattle.hub_picture.specs.Svg.Waiters.{deadlock_text, waiter_text, waiter_told, waiter_words};
+ghost use Rattle.hub_picture.specs.Svg.Waiters.{deadlock_text, last_words, outsider_text, waiter_text, waiter_told, waiter_words};
 
 use super::whom::{put_whom_words, whom};
 use crate::frame::number_of;
 use crate::pen::Pen;
-use crate::piece::{Piece, put, put_pieces};
+use crate::piece::{Piece, put, put_filled, put_pieces};
 use crate::{Drawing, Waiter};
-use hub_story::Told;
+use hub_story::{Outsider, Told};
 use std::alloc::AllocError;
 
 /// Appends what is told of a waiter.
@@ -63,6 +63,37 @@ impl Pen<Waiter> for Rows<'_> {
     fn put(&self, out: &mut Vec<u8>, waiter: &Waiter) -> Result<(), AllocError> {
         put(out, b"<tspan class=\"waits\" x=\"12\" dy=\"18\">")?;
         put_told(out, self.0, waiter)?;
+        put(out, b"</tspan>\n")
+    }
+}
+
+/// Appends a last step.
+fn put_last(out: &mut Vec<u8>, last: Option<u32>) -> Result<(), AllocError>
+    ensures { Appends out.old out.new (last_words last) result }
+{
+    match last {
+        Some(place) => put_filled(out, &[b", last at step ", b"."], &[number_of(place)]),
+        None => put(out, b", never called."),
+    }
+}
+
+/// The rows of those who are outside.
+#[derive(Clone, Copy)]
+pub(crate) struct OutsideRows;
+
+impl Pen<Outsider> for OutsideRows {
+    ghost text = { λ _. outsider_text };
+
+    fn put(&self, out: &mut Vec<u8>, outsider: &Outsider) -> Result<(), AllocError> {
+        put_filled(
+            out,
+            &[
+                b"<tspan class=\"outside\" x=\"12\" dy=\"18\">P",
+                b" is outside the hub",
+            ],
+            &[outsider.pid.0.into()],
+        )?;
+        put_last(out, outsider.last)?;
         put(out, b"</tspan>\n")
     }
 }

@@ -11,5 +11,5 @@ returns c =
     let told = c.args.story.now.told.items in
     subst
     (λ clock. OnOk c.put_story.result
-    (c.put_story.new.out.items ≡ c.args.out.now.items ++ text_with clock c.args.paint c.args.window es told))
+    (c.put_story.new.out.items ≡ c.args.out.now.items ++ text_with clock c.args.paint c.args.window c.args.journal.now.head es told))
     c.clock_of.ensures c.put_story.ensures

@@ -1,6 +1,6 @@
 use Rattle.std.proofs.Common.{codes}
 use Rattle.std.specs.List.{flat_map}
-use Rattle.hub_story_text.specs.LastMoves.{mover_at}
+use Rattle.hub_story_text.specs.LastMoves.{known_at}
 use Rattle.hub_story_text.specs.WaiterText.{case_words, who_words}
 use Rattle.hub_base.specs.Values.{cases_at}
 use Rattle.hub_story_text.proofs.Chains.{on-ok, one-more}
@@ -10,6 +10,6 @@ pub returns : goal.returns
 returns c =
     on-ok c.put_cases.result
     (one-more c.args.out.now.items c.put_who.new.out.items c.put_cases.new.out.items (who_words (codes " waits since step ") c.args.told.now)
-    (flat_map (case_words (mover_at c.args.moves.now.sent.items) (mover_at c.args.moves.now.received.items))
+    (flat_map (case_words (known_at c.args.moves.now))
     (cases_at c.args.entries.now c.args.told.now.asked)) c.in_ok-put_who.ensures)
     (rw c.cases_at.ensures at c.put_cases.ensures)

@@ -1,6 +1,6 @@
 use Rattle.std.proofs.Common.{rules, ◌∙◌, ◌++◌, ap, sym}
 use Rattle.std.specs.List.{flat_map}
-use Rattle.hub_story_text.specs.LastMoves.{mover_at}
+use Rattle.hub_story_text.specs.LastMoves.{known_at}
 use Rattle.hub_story_text.specs.WaiterText.{left_words, waiter_words}
 use Rattle.hub_story_text.proofs.Chains.{on-ok, one-more}
 use Rattle.hub_story_text.proofs.StepLines.{not-empty}
@@ -15,7 +15,7 @@ returns c =
     (rw c.deref.ensures.value at c.in_ok-put_left.ensures) in
     on-ok c.put_calls.result
     (λ is. one-more out c.put_left.new.out.items c.put_calls.new.out.items (heading ++ left)
-    (flat_map (waiter_words c.args.entries.now (mover_at c.args.moves.now.sent.items) (mover_at c.args.moves.now.received.items)) c.args.waiters.now) said is
-    ∙ ap (λ l. out ++ l) (sym (not-empty c.args.nobody.now heading c.args.entries.now _ _ c.args.moves.now.left.items c.args.waiters.now
+    (flat_map (waiter_words c.args.entries.now (known_at c.args.moves.now)) c.args.waiters.now) said is
+    ∙ ap (λ l. out ++ l) (sym (not-empty c.args.nobody.now heading c.args.entries.now _ c.args.moves.now.left.items c.args.waiters.now
     (λ is. search (rules, is)))))
     c.put_calls.ensures

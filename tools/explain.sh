@@ -8,6 +8,7 @@ usage() {
 usage: explain.sh SCENARIO [FROM [TO]]
        explain.sh --every SCENARIO [FROM [TO]]
        explain.sh JOURNAL [FROM [TO]]
+       explain.sh --after CHAPTER JOURNAL [FROM [TO]]
 
 Takes a journal, which is a file that begins with `chanhub journal `, or runs a scenario to get one. Writes its page, and the story
 and the picture of all its steps, of step FROM, or of steps FROM to TO. Prints the paths of the story, the picture and the page, and
@@ -15,6 +16,8 @@ opens the page. A run that stalls is explained too. If all of more than 300 step
 of the steps round stalls and round both ends of the longest waits instead.
 With --every, the journal is a shortest run of the scenario that stalls, and what `chanhub_tool explore` says is printed first.
 If no run stalls, that is all, with status 0; if there are too many states, likewise, with status 5.
+With --after, the journal is a chapter of a hub that never ends, and CHAPTER is the one before. Where its checkpoint ends is printed
+first: the program made the steps behind that one.
 The command in OPENER opens the page, or xdg-open if OPENER is not set. If there is no such command, or xdg-open finds no viewer,
 nothing is opened.
 END
@@ -23,16 +26,25 @@ END
 case "${1-}" in -h | --help) usage; exit ;; esac
 is_well=true
 every=false
-if [ "${1-}" = --every ]; then
+before=
+case ${1-} in
+--every)
     every=true
     shift
-fi
+    ;;
+--after)
+    before=${2-}
+    [ -n "$before" ] || is_well=false
+    shift
+    [ $# = 0 ] || shift
+    ;;
+esac
 case $# in 1 | 2 | 3) ;; *) is_well=false ;; esac
 for step in "${2-1}" "${3-1}"; do
     case $step in '' | *[!0-9]*) is_well=false ;; esac
 done
 if ! $is_well; then
-    usage | head -n 3 >&2
+    usage | head -n 4 >&2
     exit 2
 fi
 given=$1
@@ -57,6 +69,25 @@ else
     "$program" run "$given" --journal > "$folder/journal" || status=$?
     # 4: a call stalled.
     case $status in 0 | 4) ;; *) exit "$status" ;; esac
+fi
+if [ -n "$before" ]; then
+    "$tool" chain "$before" "$folder/journal" > "$folder/chained" || {
+        status=$?
+        sed "s|$folder/journal|$given|" "$folder/chained" >&2
+        exit "$status"
+    }
+    # The checkpoint is the shortest beginning of the chapter that continues the one before.
+    steps=0 most=$(($(wc -l < "$folder/journal") - 2))
+    while [ "$steps" -lt "$most" ]; do
+        middle=$(((steps + most) / 2))
+        if head -n $((middle + 2)) "$folder/journal" | "$tool" chain "$before" - > "$folder/chained"; then
+            most=$middle
+        else
+            steps=$((middle + 1))
+        fi
+    done
+    rm "$folder/chained"
+    echo "its checkpoint ends with step $steps"
 fi
 "$tool" story "$@" "$folder/journal" -o "$folder/story.txt"
 "$tool" page "$folder/journal" -o "$folder/page.html"

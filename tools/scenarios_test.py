@@ -269,6 +269,26 @@ class Tests(Count):
         status, told, errors = self.script('explain.sh', self.path('faulty'))
         self.test('explain.sh leaves nothing of a faulty journal', (status, told, self.left()) == (2, '', before) and errors == 'chanhub: line 2: bad procs\n')
 
+    def explains_a_chapter(self):
+        # The last step of the chapter looks like one of its checkpoint, which has the port, its two values and the exit.
+        before, chapter, other = (self.path(name) for name in ('chapter', 'next', 'other'))
+        again = b'0 make 9\n0 send 1 5\n0 send 1 6\n2 exit\n'
+        write(before, b'chanhub journal 2\nprocs 3\n0 make 9\n2 exit\n0 send 1 4\n1 recv 1\n0 send 1 5\n1 send 1 6\n')
+        write(chapter, b'chanhub journal 2\nprocs 3\n' + again + b'0 send 1 7\n1 recv 1\n')
+        write(other, b'chanhub journal 2\nprocs 3\n' + again[:-7])
+        status, told, errors = self.script('explain.sh', '--after', before, chapter)
+        said, *names = told.splitlines()
+        self.test('explain.sh --after says where the checkpoint ends', (status, said, errors, len(names)) == (0, 'its checkpoint ends with step 4', '', 3))
+        self.test('explain.sh --after explains the chapter', b'\n      5  P0 send 1 7' in read(names[0]))
+        self.test('explain.sh --after of chapters without a step between', self.script('explain.sh', '--after', other, other, '1')[1].startswith('its checkpoint ends with step 3\n'))
+        left = self.left()
+        status, told, errors = self.script('explain.sh', '--after', before, other)
+        said = f'{other} breaks the chain at line 6: not the checkpoint of the chapter before\n'
+        self.test('explain.sh --after another chapter', (status, told, errors, self.left()) == (3, '', said, left))
+        for words in ((), (before,)):
+            status, told, errors = self.script('explain.sh', '--after', *words)
+            self.test('explain.sh --after says how it is used', status == 2 and told == '' and errors.startswith('usage: '))
+
     def explains_every_run(self):
         stalls, ends = (os.path.join(EXAMPLES, it) for it in ('philosophers', os.path.join('scenarios', 'mutual_exclusion')))
         status, told, errors = self.script('explain.sh', '--every', stalls)
@@ -449,7 +469,7 @@ def main():
     signal.signal(signal.SIGINT, signal.default_int_handler)
     with tempfile.TemporaryDirectory() as folder:
         tests = Tests(program, tool, folder)
-        for part in (lambda: tests.lint_agrees(mutations), tests.lint_says_where, tests.explains, tests.explains_every_run, tests.stalls, tests.counts, tests.answers, tests.refusals, tests.passes_no_window, tests.reports):
+        for part in (lambda: tests.lint_agrees(mutations), tests.lint_says_where, tests.explains, tests.explains_a_chapter, tests.explains_every_run, tests.stalls, tests.counts, tests.answers, tests.refusals, tests.passes_no_window, tests.reports):
             try:
                 part()
             except (ImportError, OSError, TypeError) as error:

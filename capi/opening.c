@@ -53,20 +53,23 @@ static int open_endless(chanhub **hub, unsigned edition, unsigned procs, uint32_
     return opened(hub, h, hub_c_open_endless(&h->hub, edition_of(edition), procs_of(procs), keep, chapters != NULL));
 }
 
-/* Makes the clock of a hub that was just opened wait. If memory is refused for that, the hub is freed. */
+/* Memory was refused to a hub that was just opened, and it is freed. */
+static int no_memory(chanhub **hub) {
+    (*hub)->chapters = NULL; /* nobody has seen the hub, so nobody gets one */
+    chanhub_free(*hub);
+    *hub = NULL;
+    return 3;
+}
+
+/* Makes the clock of a hub that was just opened wait. */
 static int start_clock(chanhub **hub, uint8_t clock) {
     chanhub *h = *hub;
     struct told t = { 0 };
     hub_c_recv(&h->hub, clock, 0, &t);
-    if (t.it.what == CHANHUB_WAITING) {
-        h->clock = clock;
-        set_clock(h, ASLEEP);
-        return 0;
-    }
-    h->chapters = NULL; /* nobody has seen the hub, so nobody gets one */
-    chanhub_free(h);
-    *hub = NULL;
-    return 3;
+    if (t.it.what != CHANHUB_WAITING) return no_memory(hub);
+    h->clock = clock;
+    set_clock(h, ASLEEP);
+    return 0;
 }
 
 /* The number at a place of a text, of which at most two digits count. */
@@ -84,7 +87,17 @@ static int differs(const chanhub_options *o, bool has_clock) {
     return o->edition && o->edition != number_at(edition) ? 4 : 0;
 }
 
-/* Opens a hub that follows the journal of the options. If that has a clock, its first step is the clock's. */
+/* Begins to follow a journal. A clock is awake until its first wait, which is made here where it is the first step of all. */
+static int begin_following(chanhub **hub, uint8_t clock) {
+    chanhub *h = *hub;
+    h->clock = clock;
+    h->state = h->goes_on && !hub_c_next(&h->hub) ? FREE : FOLLOWS;
+    set_clock(h, clock == NOBODY ? NO_CLOCK : AWAKE);
+    if (h->state == FOLLOWS) settle(h, NOBODY);
+    return h->state == ENDED ? no_memory(hub) : 0;
+}
+
+/* Opens a hub that follows the journal of the options. */
 static int open_following(chanhub **hub, const chanhub_options *o) {
     if (o->limit || o->keep || o->chapters) return 7;
     chanhub *h = calloc(1, sizeof *h);
@@ -98,11 +111,7 @@ static int open_following(chanhub **hub, const chanhub_options *o) {
     h->goes_on = o->goes_on;
     h->asks_again = o->asks_again;
     why = opened(hub, h, why);
-    if (!why && clock != NOBODY) why = start_clock(hub, clock);
-    if (why) return why;
-    (*hub)->state = o->goes_on && !hub_c_next(&(*hub)->hub) ? FREE : FOLLOWS;
-    set_closer(*hub);
-    return 0;
+    return why ? why : begin_following(hub, clock);
 }
 
 static int open_as(chanhub **hub, const chanhub_options *o) {

@@ -239,14 +239,14 @@ class Story:
 
 
 def clock_of(edition, procs, lines):
-    """The clock, which in edition 2 may be the last process. It receives on port 0, and else only cancels and exits. It makes the
-    first step, or cancels."""
+    """The clock, which in edition 2 may be the last of several processes. It receives on port 0, and else only cancels and exits. It
+    makes the first step, or more than one besides its exit."""
     own = [line.split(" ")[1:] for line in lines if int(line.split(" ")[0]) == procs - 1]
     waits = [words for words in own if words == ["recv", "0"] or words[0] == "select" and words[2:] == ["r0"]]
     cancels, exits = ([words for words in own if words[0] == word] for word in ("cancel", "exit"))
-    if edition == 1 or not waits or len(waits) + len(cancels) + len(exits) < len(own):
+    if edition == 1 or procs == 1 or not waits or len(waits) + len(cancels) + len(exits) < len(own):
         return NOBODY
-    return procs - 1 if cancels or lines[0].startswith(f"{procs - 1} ") else NOBODY
+    return procs - 1 if len(waits) + len(cancels) > 1 or lines[0].startswith(f"{procs - 1} ") else NOBODY
 
 
 def colour_of(end, is_clock):

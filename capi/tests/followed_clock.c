@@ -276,6 +276,24 @@ static void no_deadline_is_left(void) {
     chanhub_free(hub);
 }
 
+/* The clock's first step is not the first of all: it is awake there, or waits later. */
+static void a_late_clock(void) {
+    static const char *const awake = "chanhub journal 2\nprocs 2\n0 make 1\n0 recv 1\n1 cancel 0\n1 recv 0\n";
+    chanhub *hub = follows(awake, false);
+    is("a clock", chanhub_has_clock(hub), 1);
+    is("made", chanhub_make(hub, 0, 1).what, CHANHUB_MADE);
+    is("timed out", chanhub_recv_until(hub, 0, 1, FAR_OFF).what, CHANHUB_TIMED_OUT);
+    has_journal("the same", hub, awake);
+    chanhub_free(hub);
+    static const char *const asleep =
+        "chanhub journal 2\nprocs 2\n0 make 1\n1 recv 0\n0 select 0 r1 default\n0 cancel 1\n0 recv 1\n1 cancel 0\n1 recv 0\n";
+    hub = follows(asleep, false);
+    is("made", chanhub_make(hub, 0, 1).what, CHANHUB_MADE);
+    is("timed out", chanhub_recv_until(hub, 0, 1, FAR_OFF).what, CHANHUB_TIMED_OUT);
+    has_journal("the same", hub, asleep);
+    chanhub_free(hub);
+}
+
 /* Why the journal with these entries is not followed, or 0; whether its hub has a clock. */
 static int opening(const char *entries, chanhub_options options, bool has_clock) {
     chanhub *hub;
@@ -301,6 +319,8 @@ static void openings(void) {
     is("another is first", opening("2\nprocs 3\n1 recv 0\n2 recv 0\n", (chanhub_options){ .procs = 3 }, false), 0);
     is("it does more", opening("2\nprocs 2\n1 recv 0\n0 cancel 1\n1 make 0\n", (chanhub_options){ .procs = 2 }, false), 0);
     is("edition 1", opening("1\nprocs 2\n1 recv 0\n", (chanhub_options){ .procs = 2 }, false), 0);
+    is("it waits twice", opening("2\nprocs 2\n0 make 0\n1 recv 0\n0 cancel 1\n1 recv 0\n", (chanhub_options){ .clock = true }, true), 0);
+    is("it only cancels", opening("2\nprocs 2\n0 make 0\n0 recv 1\n1 cancel 0\n", (chanhub_options){ .procs = 2 }, false), 0);
     is("alone", opening("2\nprocs 1\n0 recv 0\n", (chanhub_options){ .procs = 1 }, false), 0);
     is("most", opening("2\nprocs 64\n63 recv 0\n", (chanhub_options){ .procs = 63 }, true), 0);
     is("no hub", chanhub_has_clock(NULL), 0);
@@ -319,6 +339,7 @@ int main(void) {
     at_the_end();
     all_wait_at_the_end();
     no_deadline_is_left();
+    a_late_clock();
     openings();
     return tally("followed clock");
 }

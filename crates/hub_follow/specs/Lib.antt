@@ -1,3 +1,3 @@
-pub mod Clock
 pub mod Follow
 pub mod Stands
+pub use Rattle.hub_story.specs.Clock

@@ -11,18 +11,18 @@ ghost use Rattle.hub_core.specs.HubView.{opened_hub};
 ghost use Rattle.hub_laws.specs.Journals.{IsLegal};
 ghost use Rattle.hub_live.specs.Locked.{IsReplyTo, answer_for, none_waits, without_answer};
 ghost use Rattle.hub_chain.specs.Faults.{IsNotLegal};
-ghost use Rattle.hub_follow.specs.Clock.{clock_of};
+ghost use Rattle.hub_story.specs.Clock.{clock_of};
 ghost use Rattle.hub_follow.specs.Follow.{FollowsAnew, FollowsStep, IsAdmitted, IsBeginning, IsDue, IsFree, IsOfIts, diverged_by, next_of, number_of, step_of, with_locked, with_word};
 ghost use Rattle.hub_follow.specs.Stands.{Passes, Stands, word_of};
 ghost use Rattle.hub_follow.specs.Stands.{is_of as is_entry_of};
 ghost use Rattle.hub_follow.specs.declared.not_made.NotMade.TheVariants.{Diverged, NotYet};
 
 use crate::NotMade;
-use crate::clock::keeps_time;
-use hub_base::{CaseSlice, Entry, EntryRef, Event, Pid, Step};
+use hub_base::{CaseSlice, Entry, EntryRef, Event, NoMemory, Pid, Step, StepRef};
 use hub_chain::{ChainFault, is_same_entry, read_hub};
-use hub_core::{Hub, ShortHub};
+use hub_core::{CaseRoom, Hub, ShortEntries, ShortHub, ShortJournal};
 use hub_live::under_lock::Locked;
+use hub_story::clock_of;
 use std::alloc::Global;
 use std::marker::Model;
 
@@ -47,18 +47,18 @@ pub(crate) enum Stand {
     Over,
 }
 
-/// Whether the entry at this place of a hub's journal is of this process.
-fn is_of(hub: &ShortHub, place: usize, pid: Pid) -> bool
-    ensures { result ≡ is_entry_of pid (slice_get hub.now.memory.hub.journal place) }
+/// Whether the entry at this place is of this process.
+fn is_of(given: &ShortEntries, place: usize, pid: Pid) -> bool
+    ensures { result ≡ is_entry_of pid (slice_get given.now place) }
 {
-    match hub.entry(place) {
-        Some(entry) => entry.pid.0 == pid.0,
+    match given.pid_at(place) {
+        Some(own) => own.0 == pid.0,
         None => false,
     }
 }
 
 /// The choice word of a call; 0 for any other step.
-fn word_of(step: &Step) -> u64
+fn word_of(step: &StepRef<'_>) -> u64
     ensures { result ≡ word_of step.now }
 {
     match step {
@@ -88,28 +88,29 @@ fn with_word<'a>(entry: &EntryRef<'a>, word: u64) -> EntryRef<'a>
     }
 }
 
-/// The choice word with which this entry stands at this place of a hub's journal, if it does.
-fn word_at(hub: &ShortHub, place: usize, entry: &EntryRef<'_>) -> Option<u64>
-    ensures found { IfSome result (λ word. slice_get hub.now.memory.hub.journal place ≡ Some (with_word word entry.now)) }
-    ensures none { IfNone result ((word : ℕ) → ¬ (slice_get hub.now.memory.hub.journal place ≡ Some (with_word word entry.now))) }
+/// The choice word with which this entry stands at this place, if it does.
+fn word_at(given: &ShortEntries, place: usize, entry: &EntryRef<'_>) -> Option<u64>
+    ensures found { IfSome result (λ word. slice_get given.now place ≡ Some (with_word word entry.now)) }
+    ensures none { IfNone result ((word : ℕ) → ¬ (slice_get given.now place ≡ Some (with_word word entry.now))) }
 {
-    let given = hub.entry(place)?;
-    let word = word_of(&given.step);
-    if is_same_entry(&given.by_slice(), &with_word(entry, word)) {
+    let mut room = CaseRoom::new();
+    let there = given.get(place, &mut room)?;
+    let word = word_of(&there.step);
+    if is_same_entry(&there, &with_word(entry, word)) {
         Some(word)
     } else {
         None
     }
 }
 
-/// The place of the first entry of this process in a hub's journal, from this place on.
-fn turn_from(hub: &ShortHub, made: usize, pid: Pid) -> Option<usize>
-    ensures turn { result ≡ position_from (λ e. e.pid.0 == pid.0) made (drop made hub.now.memory.hub.journal) }
+/// The place of the first entry of this process, from this place on.
+fn turn_from(given: &ShortEntries, made: usize, pid: Pid) -> Option<usize>
+    ensures turn { result ≡ position_from (λ e. e.pid.0 == pid.0) made (drop made given.now) }
     ensures behind { IfSome result (λ place. made ≤ place) }
-    ensures within { IfSome result (λ place. place < length hub.now.memory.hub.journal) }
+    ensures within { IfSome result (λ place. place < length given.now) }
 {
-    for place in made..hub.len() {
-        if is_of(hub, place, pid) {
+    for place in made..given.len() {
+        if is_of(given, place, pid) {
             return Some(place);
         }
     }
@@ -130,8 +131,8 @@ fn pass(hub: &mut Locked, entry: &EntryRef<'_>) -> Result<Event, NotMade>
 pub struct Follower {
     /// The hub, and the answers that wait.
     hub: Locked,
-    /// A hub that has made the steps of the journal that is followed.
-    given: ShortHub,
+    /// The journal that is followed.
+    given: ShortJournal,
     /// What comes after a divergence.
     after: AfterDivergence,
     /// The number of the step at which it diverged, if it did.
@@ -145,9 +146,9 @@ impl Model for Follower {
 
     ghost Value = { FollowView };
 
-    ghost view = { λ l. follow_view l.hub l.given.memory.hub.journal l.after l.diverged l.asked };
+    ghost view = { λ l. follow_view l.hub l.given.entries l.after l.diverged l.asked };
 
-    ghost invariant = { λ l. FollowKeeps (follow_view l.hub l.given.memory.hub.journal l.after l.diverged l.asked) };
+    ghost invariant = { λ l. FollowKeeps (follow_view l.hub l.given.entries l.after l.diverged l.asked) };
 }
 
 impl Follower {
@@ -166,27 +167,36 @@ impl Follower {
         let Ok(hub) = Hub::open(alloc, terms.head.procs, terms.limit, terms.head.edition) else {
             return Err(ChainFault::NoMemory);
         };
-        Ok(Follower::of(hub, given, after))
+        match Follower::of(alloc, hub, given, after) {
+            Ok(follower) => Ok(follower),
+            Err(NoMemory) => Err(ChainFault::NoMemory),
+        }
     }
 
-    /// This hub, at which nothing has happened, follows the journal of that one.
-    fn of(hub: Hub, given: ShortHub, after: AfterDivergence) -> Follower
+    /// This hub, at which nothing has happened, follows the journal of that one, which ends.
+    fn of(
+        alloc: Global,
+        hub: Hub,
+        given: ShortHub,
+        after: AfterDivergence,
+    ) -> Result<Follower, NoMemory>
         requires anew { hub.memory.hub ≡ opened_hub given.memory.hub.terms }
         requires few { length given.memory.hub.journal ≤ MOST_BYTES }
-        ensures locked { result.locked ≡ none_waits hub.memory.hub }
-        ensures given { result.given ≡ given.memory.hub.journal }
-        ensures after { result.after ≡ after }
-        ensures none { result.diverged ≡ None }
-        ensures unasked { result.asked ≡ None }
+        ensures locked { IfOk result (λ l. l.locked ≡ none_waits hub.memory.hub) }
+        ensures given { IfOk result (λ l. l.given ≡ given.memory.hub.journal) }
+        ensures after { IfOk result (λ l. l.after ≡ after) }
+        ensures none { IfOk result (λ l. l.diverged ≡ None) }
+        ensures unasked { IfOk result (λ l. l.asked ≡ None) }
     {
         given.journal_is_legal();
-        Follower {
+        let given = given.into_short_journal(alloc)?;
+        Ok(Follower {
             hub: Locked::of(hub),
             given,
             after,
             diverged: None,
             asked: None,
-        }
+        })
     }
 
     /// Makes a step that the hub's edition has, as `Locked::step` does, if it is the next of the journal, and gives its answer.
@@ -216,13 +226,14 @@ impl Follower {
     fn stand(&self, entry: &EntryRef<'_>) -> Stand
         ensures { Stands self.now entry.now result }
     {
+        let given = self.given.entries();
         let made = self.hub.len();
-        if made >= self.given.len() {
+        if made >= given.len() {
             return Stand::Over;
         }
-        match turn_from(&self.given, made, entry.pid) {
+        match turn_from(given, made, entry.pid) {
             None => Stand::Early,
-            Some(place) => match word_at(&self.given, place, entry) {
+            Some(place) => match word_at(given, place, entry) {
                 None => Stand::Other(place as u32 + 1),
                 Some(word) if place == made => Stand::Next(word),
                 Some(_) => Stand::Early,
@@ -272,7 +283,7 @@ impl Follower {
     {
         match self.diverged {
             Some(number) => number,
-            None => self.given.len() as u32 + 1,
+            None => self.given.entries().len() as u32 + 1,
         }
     }
 
@@ -301,9 +312,9 @@ impl Follower {
     pub fn next(&self) -> Option<Pid>
         ensures { result ≡ next_of self.now }
     {
-        match (self.diverged, self.given.entry(self.hub.len())) {
-            (None, Some(entry)) => Some(entry.pid),
-            _ => None,
+        match self.diverged {
+            None => self.given.entries().pid_at(self.hub.len()),
+            Some(_) => None,
         }
     }
 
@@ -332,8 +343,8 @@ impl Follower {
         let None = self.diverged else {
             return None;
         };
-        let place = turn_from(&self.given, self.hub.len(), pid)?;
-        let entry = self.given.entry(place)?;
+        let place = turn_from(self.given.entries(), self.hub.len(), pid)?;
+        let entry = self.given(place)?;
         Some((place as u32 + 1, entry))
     }
 
@@ -344,7 +355,9 @@ impl Follower {
         ensures legal { IsLegal self.now.locked.hub.terms.head self.now.given }
         ensures fits { AreOf self.now.locked.hub.terms.head.edition self.now.given }
     {
-        self.given.entry(place)
+        let mut room = CaseRoom::new();
+        let entry = self.given.entries().get(place, &mut room)?;
+        Some(entry.to_owned())
     }
 
     /// The clock of the journal that is followed, if it has one: the process that waits on port 0 while no call has a deadline,
@@ -352,16 +365,7 @@ impl Follower {
     pub fn clock(&self) -> Option<Pid>
         ensures { result ≡ clock_of self.now.locked.hub.terms.head self.now.given }
     {
-        let head = self.hub.head();
-        if !head.edition.has_cancel() || head.procs <= 1 {
-            return None;
-        }
-        let last = Pid(head.procs - 1);
-        if keeps_time(last, &self.given) {
-            Some(last)
-        } else {
-            None
-        }
+        clock_of(self.hub.head(), self.given.entries())
     }
 
     /// Takes out the answer that waits for a process, as `Locked::take` does.

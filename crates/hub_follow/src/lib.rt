@@ -6,7 +6,6 @@
 //! answer is the recorded one.
 #![tactic(auto)]
 
-mod clock;
 mod follower;
 mod not_made;
 

@@ -11,7 +11,7 @@ use Rattle.hub_base.specs.Reading.{head_lines}
 use Rattle.hub_story.specs.declared.told.Told.{Told}
 use Rattle.hub_story.specs.declared.window.Window.{Window}
 use Rattle.hub_story.specs.Waiting.{stalled_by}
-use Rattle.hub_story_text.specs.Clock.{clock_of}
+use Rattle.hub_story.specs.Clock.{clock_of}
 use Rattle.hub_story_text.specs.StoryText.{came_by}
 use Rattle.hub_page.specs.declared.limits.TheConstants.{BLOCK}
 use Rattle.hub_page.specs.Entries.{entry_words}

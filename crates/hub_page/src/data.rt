@@ -5,7 +5,7 @@ ghost use Rattle.std.specs.Io.KnownBytes.{Appends};
 ghost use Rattle.hub_base.specs.Head.{IsHead};
 ghost use Rattle.hub_base.specs.Reading.{head_lines};
 ghost use Rattle.hub_replay.specs.Devices.{AppendsBeginning};
-ghost use Rattle.hub_story_text.specs.Clock.{clock_of};
+ghost use Rattle.hub_story.specs.Clock.{clock_of};
 ghost use Rattle.hub_page.specs.Data.{block_begin, block_count, clock_words, whole_blocks, window_line};
 ghost use Rattle.hub_page.specs.Faults.{Fails};
 ghost use Rattle.hub_page.specs.Known.{IsKnown, entries_of, told_of};
@@ -22,8 +22,7 @@ use crate::sketch::{Sketch, put_sketch};
 use crate::step_lines::put_lines;
 use hub_base::{NoMemory, Pid};
 use hub_replay::{Sink, write_whole};
-use hub_story::{Told, Window};
-use hub_story_text::clock_of;
+use hub_story::{Told, Window, clock_of};
 use hub_text::write_head;
 use std::alloc::{AllocError, Global};
 
@@ -141,7 +140,8 @@ fn first_lines(alloc: Global, known: &Known<'_>, window: Window) -> Result<Vec<u
     let mut lines = Vec::new(alloc);
     let head = known.journal.head();
     write_head(&mut lines, head.edition, head.procs)?;
-    put_window(&mut lines, window, clock_of(known.journal))?;
+    let clock = clock_of(known.journal.head(), known.journal.entries());
+    put_window(&mut lines, window, clock)?;
     Ok(lines)
 }
 

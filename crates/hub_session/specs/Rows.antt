@@ -5,10 +5,9 @@ use Rattle.hub_base.specs.declared.fault.Fault.TheVariants.{Busy}
 use Rattle.hub_base.specs.declared.head.Edition.TheVariants.{Two}
 use Rattle.hub_base.specs.Journal.{JournalView}
 use Rattle.hub_base.specs.Lines.{line}
-use Rattle.hub_base.specs.Notation.{cancel, case, exit, faulted, made, make, procs, procs_two, r, recv, s, select, told}
+use Rattle.hub_base.specs.Notation.{cancel, case, close, exit, faulted, made, make, procs_two, r, recv, s, select, told}
 use Rattle.hub_base.specs.Reading.{head_lines}
 use Rattle.hub_base.specs.declared.event.What.TheVariants as what
-use Rattle.hub_follow.specs.Clock.{clock_of}
 use Rattle.hub_session.specs.declared.structs.CaseC.{CaseC}
 use Rattle.hub_session.specs.declared.structs.ToldC.{ToldC}
 use Rattle.hub_session.specs.declared.structs.ValueC.{ValueC}
@@ -90,21 +89,27 @@ next_default_row = refl
 pub next_cancel_row : next_told (Some (9, cancel 0 5)) ≡ record { number = 9; what = 8; other = 5; port = 0 }
 next_cancel_row = refl
 
-pub clock_row : clock_told (clock_of (procs_two 3) (recv 2 0 ∷ make 0 1 ∷ cancel 2 0 ∷ recv 2 0 ∷ exit 2 ∷ [])) ≡ 2
+-- a select of two cases has the number of a select, and no port
+pub next_select_row : next_told (Some (7, select 0 3 (r 1 ∷ r 4 ∷ []) false)) ≡ record { number = 7; what = 4; other = 0; port = 0 }
+next_select_row = refl
+
+pub next_recv_row : next_told (Some (7, recv 0 4)) ≡ record { number = 7; what = 3; other = 0; port = 4 }
+next_recv_row = refl
+
+pub next_make_row : next_told (Some (1, make 0 4)) ≡ record { number = 1; what = 1; other = 0; port = 0 }
+next_make_row = refl
+
+pub next_close_row : next_told (Some (7, close 0 4)) ≡ record { number = 7; what = 6; other = 0; port = 4 }
+next_close_row = refl
+
+pub next_exit_row : next_told (Some (7, exit 0)) ≡ record { number = 7; what = 7; other = 0; port = 0 }
+next_exit_row = refl
+
+pub clock_row : clock_told (Some (record { 0 = 2 })) ≡ 2
 clock_row = refl
 
--- a clock makes no port, waits before all other steps, is not alone, and can cancel
-pub making_row : clock_told (clock_of (procs_two 3) (recv 2 0 ∷ make 2 1 ∷ [])) ≡ 64
-making_row = refl
-
-pub late_row : clock_told (clock_of (procs_two 3) (make 0 1 ∷ recv 2 0 ∷ [])) ≡ 64
-late_row = refl
-
-pub alone_row : clock_told (clock_of (procs_two 1) (recv 0 0 ∷ [])) ≡ 64
-alone_row = refl
-
-pub first_edition_row : clock_told (clock_of (procs 2) (recv 1 0 ∷ [])) ≡ 64
-first_edition_row = refl
+pub no_clock_row : clock_told None ≡ 64
+no_clock_row = refl
 
 -- ---- texts
 abbrev ended : JournalView

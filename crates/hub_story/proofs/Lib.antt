@@ -12,3 +12,4 @@ pub mod Waits
 pub mod Filling
 pub mod Editions
 pub mod OfPorts
+pub mod Clocks

@@ -1,4 +1,5 @@
 pub mod Told
+pub mod Clock
 pub mod LastCalls
 pub mod Passing
 pub mod Waiting

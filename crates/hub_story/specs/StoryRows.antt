@@ -1,13 +1,15 @@
 -- Worked rows of what journals tell.
-use Rattle.std.specs.Prelude.{◌≡◌, ℕ, false, List, [], ◌∷◌, map, Option, Some, refl}
+use Rattle.std.specs.Prelude.{◌≡◌, ℕ, false, List, [], ◌∷◌, map, Option, None, Some, refl}
 use Rattle.std.specs.Option.{option_map}
 use Rattle.hub_base.specs.Entry.{Entry}
 use Rattle.hub_base.specs.declared.case.Case.TheVariants.{Send}
+use Rattle.hub_base.specs.declared.value.Pid.{Pid}
 use Rattle.hub_base.specs.declared.value.Value.{Value}
 use Rattle.hub_base.specs.Value.{bytes_of}
 use Rattle.hub_base.specs.Notation.{procs, procs_two, port, r, make, send, recv, exit, select, cancel, cancelled}
 use Rattle.hub_story.specs.declared.told.Told.{Told}
 use Rattle.hub_story.specs.declared.moved.Passage.{Passage}
+use Rattle.hub_story.specs.Clock.{clock_of}
 use Rattle.hub_story.specs.Told.{told, end_of}
 use Rattle.hub_story.specs.Passing.{passages}
 use Rattle.hub_story.specs.Waiting.{still_waiting, stalled_by}
@@ -95,3 +97,33 @@ values ms = map (λ m. m.received.value) ms
 
 pub bytes_row : values (passages bytes_passed (told (procs_two 2) bytes_passed) (port 1)) ≡ two_bytes ∷ []
 bytes_row = refl
+
+-- a clock waits in the first step of all,
+abbrev two : Option Pid
+two = Some (record { 0 = 2 })
+
+pub clock_row : clock_of (procs_two 3) (recv 2 0 ∷ make 0 1 ∷ exit 2 ∷ []) ≡ two
+clock_row = refl
+
+-- or later, and then makes another step
+pub chapter_row : clock_of (procs_two 3) (make 0 1 ∷ recv 2 0 ∷ cancel 0 2 ∷ recv 2 0 ∷ []) ≡ two
+chapter_row = refl
+
+pub awake_row : clock_of (procs_two 3) (make 0 1 ∷ recv 1 1 ∷ cancel 2 1 ∷ recv 2 0 ∷ []) ≡ two
+awake_row = refl
+
+pub late_row : clock_of (procs_two 3) (make 0 1 ∷ recv 2 0 ∷ cancel 0 2 ∷ exit 2 ∷ []) ≡ None
+late_row = refl
+
+-- it waits, makes no port, is not alone, and can cancel
+pub cancels_row : clock_of (procs_two 3) (make 0 1 ∷ cancel 2 1 ∷ cancel 2 0 ∷ []) ≡ None
+cancels_row = refl
+
+pub making_row : clock_of (procs_two 3) (recv 2 0 ∷ make 2 1 ∷ []) ≡ None
+making_row = refl
+
+pub alone_row : clock_of (procs_two 1) (recv 0 0 ∷ []) ≡ None
+alone_row = refl
+
+pub first_edition_row : clock_of (procs 3) (recv 2 0 ∷ []) ≡ None
+first_edition_row = refl

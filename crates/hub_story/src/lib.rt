@@ -5,6 +5,7 @@
 #![tactic(auto)]
 
 mod by_port;
+mod clock;
 mod ends;
 mod exits;
 mod last_calls;
@@ -19,6 +20,7 @@ mod told;
 mod window;
 
 pub use by_port::ByPort;
+pub use clock::clock_of;
 pub use exits::leaves;
 pub use laws::{
     entries_end_once, events_are_told, levels_are_told, passages_are_in_time, passages_are_told,

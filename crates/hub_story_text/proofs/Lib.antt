@@ -11,5 +11,4 @@ pub mod Places
 pub mod Ranks
 pub mod Packs
 pub mod OwnEnds
-pub mod Clocks
 mod Picks

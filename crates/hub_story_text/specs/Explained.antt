@@ -4,7 +4,7 @@ use Rattle.hub_base.specs.Entry.{Entry}
 use Rattle.hub_story.specs.declared.told.Told.{Told}
 use Rattle.hub_story.specs.Stories.{IsStoryOf}
 use Rattle.hub_story_text.specs.declared.explained.Explained.{Explained}
-use Rattle.hub_story_text.specs.Clock.{clock_of}
+use Rattle.hub_story.specs.Clock.{clock_of}
 use Rattle.hub_story_text.specs.Partners.{AreIn, ways}
 
 abbrev pub entries_of : Explained → List Entry

@@ -25,7 +25,6 @@ mod waiters;
 mod waits;
 
 pub use block::{Block, MOST_BLOCK};
-pub use clock::clock_of;
 pub use hub_story::Window;
 pub use last_moves::{LastMoves, Mover, PORT_NUMBERS, got_port, sent_port};
 pub use packed_text::PackedText;

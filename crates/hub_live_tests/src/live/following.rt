@@ -29,10 +29,10 @@ enum Row {
     Next(Option<Pid>),
     /// The number of the step at which it has diverged.
     Diverged(Option<u32>),
-    /// The number of the process's next step in the journal.
-    StepOf(u8, Option<u32>),
-    /// Which process made the step that was the first divergence.
-    Asked(Option<Pid>),
+    /// The process's next step in the journal, with its number.
+    StepOf(u8, Option<(u32, Ask)>),
+    /// Which step was the first divergence, and whose.
+    Asked(Option<(u8, Ask)>),
 }
 
 /// How the hub, whose edition must have the step, answers it.
@@ -69,11 +69,14 @@ fn follow_row(rt: &impl Abort, hub: &mut Follower, row: Row, place: usize) {
         }
         Row::Next(pid) => same(rt, hub.next(), pid, place),
         Row::Diverged(number) => same(rt, hub.diverged(), number, place),
-        Row::StepOf(pid, number) => {
-            let found = hub.step_of(Pid(pid)).map(|(number, _)| number);
-            same(rt, found, number, place);
+        Row::StepOf(pid, next) => {
+            let wanted = next.map(|(number, asked)| (number, entry_of(pid, asked)));
+            assert!(rt; hub.step_of(Pid(pid)) == wanted, "{place}");
         }
-        Row::Asked(pid) => same(rt, hub.asked().map(|entry| entry.pid), pid, place),
+        Row::Asked(asked) => {
+            let wanted = asked.map(|(pid, asked)| entry_of(pid, asked));
+            assert!(rt; hub.asked() == wanted, "{place}");
+        }
     }
 }
 
@@ -83,8 +86,8 @@ const GOES_ON: &[Row] = &[
     Row::Waits(1, Ask::Recv),
     Row::Asks(0, Ask::Make(0), MADE),
     Row::Next(Some(Pid(1))),
-    Row::StepOf(1, Some(2)),
-    Row::StepOf(0, Some(3)),
+    Row::StepOf(1, Some((2, Ask::Recv))),
+    Row::StepOf(0, Some((3, Ask::Send(9)))),
     Row::Waits(0, Ask::Send(9)),
     Row::Asks(1, Ask::Recv, PARKED),
     Row::Asks(1, Ask::Recv, Told::Refused(Fault::Busy)),
@@ -97,7 +100,7 @@ const GOES_ON: &[Row] = &[
     Row::Asked(None),
     Row::Diverges(0, Ask::Exit, 4),
     Row::Diverged(Some(4)),
-    Row::Asked(Some(Pid(0))),
+    Row::Asked(Some((0, Ask::Exit))),
     Row::StepOf(0, None),
     Row::Next(None),
     Row::Asks(1, Ask::Exit, DONE),
@@ -114,7 +117,7 @@ const ENDS: &[Row] = &[
     Row::Diverged(None),
     Row::Diverges(1, Ask::Exit, 5),
     Row::Diverges(0, Ask::Close, 5),
-    Row::Asked(Some(Pid(1))),
+    Row::Asked(Some((1, Ask::Exit))),
 ];
 
 /// The first step is another one.
@@ -244,9 +247,9 @@ fn another_case_or_default_is_a_divergence(rt: HostRuntime) -> Result<(), Fail> 
     Ok(())
 }
 
-/// Process 1 waits on port 0 before all other steps, and makes none but such waits and a cancel.
-const WITH_CLOCK: &[u8] =
-    b"chanhub journal 2\nprocs 2\n1 recv 0\n0 make 0\n0 recv 1\n1 cancel 0\n0 exit\n";
+/// Process 1 is the clock: it waits first, is woken before process 0 waits, and then waits again.
+const WITH_CLOCK: &[u8] = b"chanhub journal 2\nprocs 2\n1 recv 0\n0 make 0\n0 select 0 r1 default\n\
+    0 cancel 1\n0 recv 1\n1 cancel 0\n1 recv 0\n0 exit\n1 exit\n";
 
 #[test]
 fn the_clock_of_a_journal_is_known(rt: HostRuntime) -> Result<(), Fail> {

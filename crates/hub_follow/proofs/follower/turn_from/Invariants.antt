@@ -3,4 +3,4 @@ use Rattle.hub_follow.proofs.Turns.{turn}
 use Rattle.hub_follow.proofs.follower.turn_from.Given as goal
 
 abbrev pub invariant-loop-place : goal.invariant-loop-place
-invariant-loop-place l = turn l.pid l.place l.hub.memory.hub.journal ≡ turn l.pid l.made l.hub.memory.hub.journal
+invariant-loop-place l = turn l.pid l.place l.given ≡ turn l.pid l.made l.given

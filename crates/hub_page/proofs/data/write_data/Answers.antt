@@ -3,7 +3,7 @@ use Rattle.std.proofs.KnownBytes.{Appends-nil}
 use Rattle.std.specs.List.{flat_map, range_with_len}
 use Rattle.hub_base.specs.Reading.{head_lines}
 use Rattle.hub_story.specs.declared.window.Window.{Window}
-use Rattle.hub_story_text.specs.Clock.{clock_of}
+use Rattle.hub_story.specs.Clock.{clock_of}
 use Rattle.hub_page.specs.declared.known.Known.{Known}
 use Rattle.hub_page.specs.Data.{block_count, block_text, whole_blocks, window_line}
 use Rattle.hub_page.specs.Known.{entries_of, procs_of, told_of}

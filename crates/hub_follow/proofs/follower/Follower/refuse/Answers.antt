@@ -5,13 +5,13 @@ use Rattle.hub_follow.proofs.follower.Follower.refuse.Goals as goal
 
 pub invariant_of-self : goal.invariant_of-self
 invariant_of-self c =
-    let l = follow_view c.self.inside.hub c.self.inside.given.memory.hub.journal c.self.inside.after c.self.inside.diverged c.self.inside.asked in
+    let l = follow_view c.self.inside.hub c.self.inside.given.entries c.self.inside.after c.self.inside.diverged c.self.inside.asked in
     let not : ¬ IsAdmitted l c.args.entry.now = subst (λ (m : FollowView). ¬ IsAdmitted m c.args.entry.now) (sym c.self.view_is) c.requires.refused in
     keeps_refused l c.args.entry.now c.pass.new.hub c.pass.result c.self.invariant not c.pass.ensures
 
 pub returns : goal.returns
 returns c =
-    let l = follow_view c.self.inside.hub c.self.inside.given.memory.hub.journal c.self.inside.after c.self.inside.diverged c.self.inside.asked in
+    let l = follow_view c.self.inside.hub c.self.inside.given.entries c.self.inside.after c.self.inside.diverged c.self.inside.asked in
     let Refuses : FollowView → Type 0 =
     λ m. ¬ IsAdmitted m c.args.entry.now → FollowsStep m c.args.entry.now (with_locked c.pass.new.hub l) c.pass.result in
     record {

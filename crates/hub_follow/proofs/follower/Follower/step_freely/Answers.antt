@@ -5,7 +5,7 @@ use Rattle.hub_follow.proofs.follower.Follower.step_freely.Goals as goal
 
 pub returns-in_ok-answer-in-GoesOn : goal.returns-in_ok-answer-in-GoesOn
 returns-in_ok-answer-in-GoesOn c =
-    let l = follow_view c.self.inside.hub c.self.inside.given.memory.hub.journal c.self.inside.after c.self.inside.diverged c.self.inside.asked in
+    let l = follow_view c.self.inside.hub c.self.inside.given.entries c.self.inside.after c.self.inside.diverged c.self.inside.asked in
     let e = c.args.entry.now in
     let answer = c.in_ok-answer-in-GoesOn.answer in
     let number : number_of l ≡ c.number-number.result = ap number_of c.self.view_is ∙ sym c.number-number.ensures in

@@ -6,5 +6,5 @@ use Rattle.hub_follow.proofs.follower.Follower.take.Goals as goal
 
 pub invariant_of-self : goal.invariant_of-self
 invariant_of-self c =
-    let l = follow_view c.self.inside.hub c.self.inside.given.memory.hub.journal c.self.inside.after c.self.inside.diverged c.self.inside.asked in
+    let l = follow_view c.self.inside.hub c.self.inside.given.entries c.self.inside.after c.self.inside.diverged c.self.inside.asked in
     subst (λ (k : LockedView). FollowKeeps (with_locked k l)) (sym c.take.ensures.taken) (keeps_taken l c.args.pid.0 c.self.invariant)

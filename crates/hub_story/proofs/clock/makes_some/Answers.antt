@@ -1,7 +1,7 @@
 use Rattle.std.proofs.Common.{sym, ◌∙◌, arith}
-use Rattle.hub_story_text.specs.Clock.{is_made}
-use Rattle.hub_story_text.proofs.Clocks.{any-here, none-all, none-more}
-use Rattle.hub_story_text.proofs.clock.makes_some.Goals as goal
+use Rattle.hub_story.specs.Clock.{is_made}
+use Rattle.hub_story.proofs.Clocks.{any-here, none-all, none-more}
+use Rattle.hub_story.proofs.clock.makes_some.Goals as goal
 
 pub returns-then-is_made : goal.returns-then-is_made
 returns-then-is_made c =

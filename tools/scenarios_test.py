@@ -430,7 +430,7 @@ class Tests(Count):
         for name in ('model.py', 'story_model.py'):
             done = subprocess.run([os.path.join(TOOLS, name)], input=b'chanhub journal 1\nprocs 1\n0 mak 1\n', capture_output=True)
             self.test('%s on no journal' % name, (done.returncode, done.stdout, done.stderr) == (1, b'', name.encode() + b': standard input: line 3 is none of a journal\n'), done.stderr)
-        for name in ('explain.sh', 'page.py', 'overview.py', 'windows.py', 'until_stall.sh', 'seeds.sh', 'lint_scenario.py', 'aarch64.sh', 'soak.sh', 'trials.sh', 'build.py', 'ready.py', 'model.py', 'story_model.py'):
+        for name in ('explain.sh', 'page.py', 'overview.py', 'windows.py', 'until_stall.sh', 'seeds.sh', 'lint_scenario.py', 'aarch64.sh', 'soak.sh', 'trials.sh', 'build.py', 'ready.py', 'claims.py', 'model.py', 'story_model.py'):
             for word in ('-h', '--help'):
                 status, told, errors = self.script(name, word)
                 self.test('%s %s' % (name, word), (status, errors) == (0, '') and name in told or name == 'story_model.py' and told, (status, errors))

@@ -34,10 +34,11 @@ class Step:
 
 
 class Port:
-    """How many values it holds; who moved values last; and of values that one end is told of only, the steps of the sends, or of receives."""
+    """How many values it holds; who moved values last, and who received any; and of values that one end is told of only, the steps of the
+    sends, or of receives."""
 
     def __init__(self):
-        self.count, self.sender, self.receiver = 0, None, None
+        self.count, self.sender, self.receiver, self.receivers = 0, None, None, set()
         self.not_received, self.not_sent = collections.deque(), collections.deque()
 
 
@@ -85,7 +86,7 @@ class Data:
         clock = story_model.clock_of(int(head.split()[2]), int(procs.split()[1]), lines)
         self.procs, self.window = int(procs.split()[1]), range((first - 1) // BLOCK * BLOCK, min(len(lines), -(-last // BLOCK) * BLOCK))
         self.hub = model.Hub(int(head.split()[2]), self.procs)
-        self.ports, self.waiting = collections.defaultdict(Port), {}  # by process, in the order of arrival
+        self.ports, self.waiting, self.exited = collections.defaultdict(Port), {}, set()  # waiting by process, in the order of arrival
         self.sketch, self.told = Sketch(0), set(self.window)
         texts, sketches = [], []
         for place, line in enumerate(lines):
@@ -122,6 +123,8 @@ class Data:
         items, stalled = [], []
         if word in ("make", "exit"):
             self.told.add(place)
+        if word == "exit" and events[0].endswith(" done"):
+            self.exited.add(own.pid)
         for number, event in enumerate(events):
             pid, *words = event.split(" ")
             step = self.waiting.pop(int(pid)) if number else own
@@ -165,6 +168,7 @@ class Data:
                 port.not_received.append(step)
         else:
             port.count, port.receiver = port.count - 1, step
+            port.receivers.add(step.pid)
             self.sketch.got[case[1]] += 1
             if port.not_received:
                 self.passed(port.not_received.popleft(), item)
@@ -184,12 +188,14 @@ class Data:
         return item.words + ("" if item.sender is None else f"@{place - item.sender}") + f";{item.port}:{self.ports[item.port].count}"
 
     def stalls(self, place, stalled):
-        """Who was there last, and for whom each of these calls perhaps waits, as docs/EXPLAIN.md says it."""
+        """Who was there last, of a send whether all who received there have exited, and for whom each of these calls perhaps waits, as
+        docs/EXPLAIN.md says it."""
         offers = {step.pid: {case[:2] for case in step.cases} for step in stalled}
         for step in stalled:
             for side, number in (case[:2] for case in step.cases):
                 movers = self.ports[number].sender, self.ports[number].receiver
                 yield f";{number}L" + ",".join("" if mover is None else str(place - mover.place) for mover in movers)
+                yield "!" if side == "s" and set() < self.ports[number].receivers <= self.exited else ""
                 others = [mover.pid for mover in (movers if side == "r" else reversed(movers)) if mover]
                 others = [pid for pid in others if pid != step.pid and pid in offers and (side, number) not in offers[pid]]
                 yield f";{step.pid}>{others[0]}" if others else ""

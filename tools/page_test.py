@@ -367,6 +367,19 @@ def stalled_lines(journal, by):
             yield f"P{pid}, step {asked + 1} waits to {' or to '.join(map(case_words, cases_spelled(line)))}{told}"
 
 
+def last_cells(journal, by):
+    """What the panel says of each port on which a call that a step stalled waits: who sent and who received there last, and, if one waits
+    to send there, whether all who received have exited."""
+    cases = [case for step, _, asked in journal.stalls if step == by for case in picture.cases_of(journal.lines[asked])]
+    for port in dict.fromkeys(port for _, port in cases if port != "0"):
+        sent, got = ([place for place, step, _ in journal.moved[side][int(port)] if step <= by] for side in "sr")
+        movers = [f"P{pid_at(journal, places[-1])}, step {places[-1] + 1}" if places and is_told(journal, places[-1])
+            else f"step {places[-1] + 1} (not told)" if places else "nobody" for places in (sent, got)]
+        left = {pid for pid, step in journal.exited.items() if step <= by}
+        is_gone = ("s", port) in cases and set() < {pid_at(journal, place) for place in got} <= left
+        yield from [port, movers[0], movers[1] + ("; all who received there have left" if is_gone else "")]
+
+
 def cause_lines(journal, by):
     """What the panel says first of a deadlock: to which port nobody ever came, who wait for each other, and who is left alone."""
     stalled = [(pid, asked) for step, pid, asked in journal.stalls if step == by]
@@ -874,6 +887,8 @@ def check_part_panel(browser, journal):
         for id, lines in ("cause", cause_lines(journal, place)), ("full", held_lines(journal, place)), ("stalled", stalled_lines(journal, place)):
             said, lines = texts(browser, f"#{id} li"), [line.strip() for line in lines]
             assert said == lines, f"{id} at step {place + 1}: {said} and not {lines}"
+        said, cells = texts(browser, "#last td"), list(last_cells(journal, place))
+        assert said == cells, f"who was there last at step {place + 1}: {said} and not {cells}"
     for place in sorted(set(range(count)) - journal.told)[:3]:
         shown = title(browser)
         browser.value(f"page.choose({place})")
@@ -1219,6 +1234,8 @@ def check_panel(browser, journal, draw):
         for id, lines in ("cause", cause_lines(journal, place)), ("full", held_lines(journal, place)), ("stalled", stalled_lines(journal, place)):
             told, wanted = texts(browser, f"#{id} li"), [line.strip() for line in lines]
             assert told == wanted, f"{id} at step {place + 1}: {told} and not {wanted}"
+        told, wanted = texts(browser, "#last td"), list(last_cells(journal, place))
+        assert told == wanted, f"who was there last at step {place + 1}: {told} and not {wanted}"
         wanted = [f"{one.place + 1} {one.line} {answer_of(one) if one.ended and one.ended.by < place else 'waits'}"
             for one in asked[max(0, place - 6) : place]]
         told = texts(browser, "#before li")
@@ -1304,6 +1321,15 @@ def check_sevens(browser, count, work):
     heading, moves = texts(browser, "#way"), texts(browser, "#moves li")
     count.test("equal values are not called a way", heading == ["Moves of 7: 9 of 9 steps"] and len(moves) == 5, (heading, moves))
     count.test("a value that stays", moves[-1] == "port 1: sent by P3, step 16, stays there", moves)
+
+
+def check_left(browser, count, work):
+    """Of the ports where a call waits to send, all who received from one have left, which is told of it alone."""
+    open_page(browser, picture.LEFT, work / "left.html")
+    browser.value("page.choose(page.journal.stalls[0])")
+    told, wanted = texts(browser, "#last td"), ["1", "P0, step 14", "P1, step 6; all who received there have left",
+        "2", "P0, step 15", "P2, step 10", "3", "nobody", "nobody", "4", "P0, step 11", "P1, step 12"]
+    count.test("all who received there have left", told == wanted, told)
 
 
 def check_deadlocks(browser, count, work):
@@ -1825,7 +1851,7 @@ def main():
         for check in check_follow, check_mouse, check_lanes, check_waits, check_keys, check_links, check_contrasts:
             count.run(check.__name__, lambda: check(browser, count, path))
         count.run("stalls in the strip", lambda: check_stall_marks(browser, count, work))
-        for check in check_locks, check_results, check_sevens, check_deadlocks:
+        for check in check_locks, check_results, check_sevens, check_left, check_deadlocks:
             count.run(check.__name__, lambda: check(browser, count, work))
         count.run("bytes that HTML would take for its own", lambda: check_nasty(browser, count, work))
         count.run("bytes a step", lambda: check_bytes(count, work))

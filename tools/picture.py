@@ -262,9 +262,12 @@ def waits(journal, bands):
             moved = [mover(journal.moved[way][int(port)], step) for way in "sr"]
             pid = int(journal.lines[asked].split()[0])
             other = whom(journal, step, (side, port), pid, *moved)
+            receivers = {int(event.split()[0]) for _, by, event in journal.moved["r"][int(port)] if by <= step}
+            gone = side == "s" and set() < receivers <= {one for one, by in journal.exited.items() if by <= step}
             row = (
                 f"P{pid} has waited since step {asked + 1} to {aim} port {port}; "
-                f"last sent there by {mover_words(moved[0])}, last received by {mover_words(moved[1])}. "
+                f"last sent there by {mover_words(moved[0])}, last received by {mover_words(moved[1])}"
+                f"{'; all who received there have left' if gone else ''}. "
             )
             yield row + ("" if other is None else f"Perhaps it waits for P{other}. "), step, pid, other
 
@@ -722,6 +725,42 @@ def check_times(count, program):
         count.run(f"{where} of the longest journal, of 63 who wait", lambda: is_soon(program, journal, steps, first))
 
 
+# ---- who has left
+
+# process 1, which alone received from ports 1 and 4, has exited; from port 2 process 2 received too, and from port 3 nobody did. So all
+# who received there have left in one row of these six: that of the send on port 1
+LEFT = """chanhub journal 2
+procs 4
+0 make 1
+0 make 1
+0 make 0
+0 make 1
+0 send 1 5
+1 recv 1
+0 send 2 6
+1 recv 2
+0 send 2 7
+2 recv 2
+0 send 4 8
+1 recv 4
+1 exit
+0 send 1 5
+0 send 2 6
+0 select 0 s1:9 s2:9 s3:9 r4
+2 select 0 r4 s3:1
+3 exit
+"""
+
+
+def check_left(count, program):
+    """At the stall, and where calls wait in the end since process 3 does not exit."""
+    for name, text in ("all who received have left", LEFT), ("they have left, and nobody is stalled", LEFT.removesuffix("3 exit\n")):
+        check_journal(count, program, name, text.encode())
+        journal = Journal(text.encode())
+        told = [row for row, *_ in waits(journal, Bands(0, len(journal.lines))) if "have left" in row]
+        count.test(f"{name}: in one row", len(told) == 1 and told[0].startswith("P0 has waited since step 16 to send on port 1;"), told)
+
+
 # ---- all of it
 
 
@@ -760,6 +799,7 @@ def main():
     for path in documents:
         check_document(count, program, path)
         check_journal(count, program, path.name, path.read_bytes())
+    check_left(count, program)
     check_refusals(count, program, documents)
     check_times(count, program)
     check_growth(count, program)

@@ -1,5 +1,5 @@
 // Tells of a step, or of the whole, in words: puts them where body.html has room for them. What stays empty is not shown.
-const items = (texts) => texts.map((text) => html`<li>${text}</li>`);
+const items = (texts) => texts.map((text) => html`<li>${text}</li>`), GONE = "; all who received there have left";
 const rowsOf = (rows) => rows.map((row) => html`<tr>${row.map((cell) => html`<td>${cell}</td>`)}</tr>`);
 const stepLink = (place) => `step=${place + 1}`, wayLink = ({ place }) => `${stepLink(place)}&find=way ${place + 1}`;
 const link = (place, words = `step ${place + 1}`, to = stepLink(place)) => html`<a href="#${to}">${words}</a>`;
@@ -37,7 +37,7 @@ function movesText(place, { journal, found, words, isFollowing }) {  // those fo
     return { way, moves: items(sends.map((one) => html`<span class="${isOwn(one) && "fired"}">port ${one.port}: sent by ${when(one)}, ${end(one)}</span>`)) };
 }
 function stallText(stall, journal) {  // a cause, what full ports hold, who waits, with guesses for whom, and who was there last
-    const cases = journal.casesOf(stall), calls = stall.calls.map((call) => journal.step(call));
+    const cases = journal.casesOf(stall), calls = stall.calls.map((call) => journal.step(call)), mover = (place) => whoAt(place, journal.step(place));
     const absent = cases.filter(({ port, offer, movers }) => port > 0 && offer && !(movers[offer[0] === "s" ? 1 : 0] >= 0));
     const nobody = absent.map(({ port, offer }) => `Before it nobody ${offer[0] === "s" ? "received from" : "sent on"} port ${port}.`);
     const isMutual = ({ step, other }) => step?.pid < other && cases.some((one) => one.step.pid === other && one.other === step.pid);
@@ -45,8 +45,8 @@ function stallText(stall, journal) {  // a cause, what full ports hold, who wait
     const sent = (send, at) => html`${at > 0 ? "; " : ": "}${readable(send.value)}, sent by P${send.pid} at ${link(send.place)}`;
     const holds = ({ port, count, held }) => html`port ${port} holds ${counted(count, "value")}${held.slice(0, 4).map(sent)}${held[4] && "; .."}`;
     const whom = (call) => cases.filter(({ step, other }) => step === call && other >= 0).map(({ other }) => `; perhaps for P${other}`);
-    const byPort = (of) => [...new Map(cases.filter(of).map((one) => [one.port, one])).values()];
-    const last = byPort(({ port }) => port > 0).map(({ port, movers }) => [port, ...movers.map((place) => whoAt(place, journal.step(place)))]);
+    const left = cases.filter((one) => one.gone), byPort = (of) => [...new Map([...cases, ...left].filter(of).map((one) => [one.port, one])).values()];
+    const last = byPort(({ port }) => port > 0).map(({ port, movers: [sent, got], gone }) => [port, mover(sent), html`${mover(got)}${gone && GONE}`]);
     const waits = (step, at) => html`${whoAt(stall.calls[at], step)} waits${step && ` to ${step.cases.map(caseText).join(" or to ")}`}${whom(step)}`;
     const rest = calls.length === 1 && journal.procs > 1 ? ["All others have exited."] : [], cause = items([...new Set(nobody.concat(mutual, rest))]);
     return { cause, full: items(byPort(({ count }) => count > 0).map(holds)), stalled: items(calls.map(waits)), last: rowsOf(last) };

@@ -5,7 +5,7 @@ use Rattle.hub_base.specs.Entry.{Entry}
 use Rattle.hub_story.specs.declared.told.Told.{Told}
 use Rattle.hub_story.specs.Levels.{sent_by, received_by}
 use Rattle.hub_story.specs.Passing.{sends, receives}
-use Rattle.hub_story_text.specs.declared.last_moves.TheConstants.{PORT_NUMBERS}
+use Rattle.hub_story.specs.declared.by_port.TheConstants.{PORT_NUMBERS}
 use Rattle.hub_page.specs.declared.levels.Levels.{Levels}
 
 -- behind the step at this place

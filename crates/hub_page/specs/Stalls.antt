@@ -1,9 +1,9 @@
 -- What the line of a step tells of those whom it stalled: for each case of each of their calls the steps that moved values there last,
--- and for whom the call perhaps waits. Other steps are named by how many steps ago they were asked.
-use Rattle.std.specs.Prelude.{ℕ, ◌+◌, ◌-◌, ◌==◌, ◌&&◌, not, Bool, false, List, [], ◌++◌, codes, decimal, Option, None, Some, if◌then◌else◌}
+-- of a send whether all who received there have left, and for whom the call perhaps waits. Other steps are named by how many steps ago
+-- they were asked.
+use Rattle.std.specs.Prelude.{ℕ, ◌+◌, ◌-◌, ◌==◌, ◌&&◌, not, Bool, true, false, List, [], ◌++◌, codes, decimal, Option, None, Some, if◌then◌else◌}
 use Rattle.std.specs.List.{flat_map, list_any}
 use Rattle.std.specs.Option.{option_or}
-use Rattle.hub_base.specs.declared.value.Port.{Port}
 use Rattle.hub_base.specs.declared.case.Case.{Case}
 use Rattle.hub_base.specs.declared.case.Case.TheVariants.{Send, Recv}
 use Rattle.hub_base.specs.Entry.{Entry}
@@ -11,8 +11,9 @@ use Rattle.hub_base.specs.Ready.{port_of}
 use Rattle.hub_story.specs.declared.told.Told.{Told}
 use Rattle.hub_story.specs.Levels.{told_by}
 use Rattle.hub_base.specs.Values.{cases_at}
+use Rattle.hub_story_text.specs.declared.last_moves.AtPort.{AtPort}
 use Rattle.hub_story_text.specs.declared.last_moves.Mover.{Mover}
-use Rattle.hub_story_text.specs.LastMoves.{AreLast, last_sender, last_receiver}
+use Rattle.hub_story_text.specs.LastMoves.{AreLast, known_of}
 use Rattle.hub_page.specs.declared.stalls.Stall.{Stall}
 use Rattle.hub_page.specs.Known.{entries_of, told_of}
 
@@ -21,9 +22,15 @@ abbrev pub back_words : ℕ → Option Mover → List ℕ
 back_words place None = []
 back_words place (Some m) = decimal (place - m.step)
 
-abbrev pub last_words : ℕ → Port → Option Mover → Option Mover → List ℕ
-last_words place p sender receiver =
-    codes ";" ++ decimal p.0 ++ codes "L" ++ back_words place sender ++ codes "," ++ back_words place receiver
+-- a sign, where the case sends, and all who received there have left
+abbrev pub gone_sign : Case → Bool → List ℕ
+gone_sign (Send p v) true = codes "!"
+gone_sign c gone = []
+
+abbrev pub last_words : ℕ → Case → AtPort → List ℕ
+last_words place c there =
+    codes ";" ++ decimal (port_of c).0 ++ codes "L" ++ back_words place there.sender ++ codes "," ++ back_words place there.receiver
+    ++ gone_sign c there.gone
 
 -- ---- who perhaps waits for whom
 -- both send on one port, or both receive from it
@@ -60,15 +67,13 @@ whom_words own None = []
 whom_words own (Some pid) = codes ";" ++ decimal own.event.pid.0 ++ codes ">" ++ decimal pid
 
 -- ---- all
--- of a case where these were the last
-abbrev pub case_words : List Entry → ℕ → List Told → Told → Option Mover → Option Mover → Case → List ℕ
-case_words es place stalled own sender receiver c =
-    last_words place (port_of c) sender receiver ++ whom_words own (whom es stalled own sender receiver c)
+-- of a case where this is known of its port
+abbrev pub case_words : List Entry → ℕ → List Told → Told → AtPort → Case → List ℕ
+case_words es place stalled own there c = last_words place c there ++ whom_words own (whom es stalled own there.sender there.receiver c)
 
 -- by what is told until then
 abbrev pub waiting_words : List Entry → List Told → ℕ → List Told → Told → Case → List ℕ
-waiting_words es until place stalled own c =
-    case_words es place stalled own (last_sender es until (port_of c)) (last_receiver es until (port_of c)) c
+waiting_words es until place stalled own c = case_words es place stalled own (known_of es until (port_of c)) c
 
 -- of a call
 abbrev pub call_words : List Entry → List Told → ℕ → List Told → Told → List ℕ
@@ -82,6 +87,6 @@ stall_words es all place stalled = flat_map (call_words es (told_by (place + 1) 
 abbrev pub until : Stall → List Told
 until s = told_by (s.place + 1) (told_of s.known.now)
 
--- the table tells who was the last by then
+-- the tables tell who was the last by then, and who had left
 abbrev pub IsStall : Stall → Type 0
 IsStall s = AreLast (entries_of s.known.now) (until s) s.last.now

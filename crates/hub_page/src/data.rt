@@ -22,7 +22,8 @@ use crate::sketch::{Sketch, put_sketch};
 use crate::step_lines::put_lines;
 use hub_base::{NoMemory, Pid};
 use hub_replay::{Sink, write_whole};
-use hub_story::{Told, Window, clock_of};
+use hub_story::{Told, Window};
+use hub_story_text::clock_in;
 use hub_text::write_head;
 use std::alloc::{AllocError, Global};
 
@@ -140,8 +141,7 @@ fn first_lines(alloc: Global, known: &Known<'_>, window: Window) -> Result<Vec<u
     let mut lines = Vec::new(alloc);
     let head = known.journal.head();
     write_head(&mut lines, head.edition, head.procs)?;
-    let clock = clock_of(known.journal.head(), known.journal.entries());
-    put_window(&mut lines, window, clock)?;
+    put_window(&mut lines, window, clock_in(known.journal))?;
     Ok(lines)
 }
 

@@ -8,8 +8,7 @@ ghost use Rattle.hub_page.specs.Levels.{AreLevels, AreNext, IsWhole, count_at, l
 use crate::counts::{count_at, count_one};
 use hub_base::{Port, What};
 use hub_core::ShortEntries;
-use hub_story::Told;
-use hub_story_text::{PORT_NUMBERS, got_port, sent_port};
+use hub_story::{PORT_NUMBERS, Told, got_port, sent_port};
 use std::alloc::{AllocError, Global};
 
 /// Of each port, by its number.

@@ -3,15 +3,15 @@
 ghost use Rattle.std.specs.Prelude.{◌≡◌, ◌++◌, OnOk};
 ghost use Rattle.std.specs.List.{flat_map, list_any};
 ghost use Rattle.hub_page.specs.Known.{entries_of, told_of};
-ghost use Rattle.hub_page.specs.Stalls.{IsStall, back_words, call_words, can_help, case_words, helper, is_beside, is_of, last_words, stall_words};
-ghost use Rattle.hub_page.specs.Stalls.{until, waiting_words, waits_beside, whom, whom_words};
+ghost use Rattle.hub_page.specs.Stalls.{IsStall, back_words, call_words, can_help, case_words, gone_sign, helper, is_beside, is_of};
+ghost use Rattle.hub_page.specs.Stalls.{last_words, stall_words, until, waiting_words, waits_beside, whom, whom_words};
 
 use crate::known::Known;
 use crate::number::put_number;
-use hub_base::{Case, Port};
+use hub_base::Case;
 use hub_core::{CaseRoom, ShortEntries};
 use hub_story::Told;
-use hub_story_text::{LastMoves, Mover};
+use hub_story_text::{AtPort, LastMoves, Mover};
 use std::alloc::AllocError;
 
 /// Appends how many steps ago the one was asked that moved a value.
@@ -29,19 +29,24 @@ fn put_back(
     }
 }
 
-/// Appends which steps moved values on the port last.
-fn put_last(
-    out: &mut Vec<u8>,
-    place: u32,
-    port: Port,
-    sender: Option<Mover>,
-    receiver: Option<Mover>,
-) -> Result<(), AllocError>
-    ensures { OnOk result (out.new.items ≡ out.old.items ++ last_words place port sender receiver) }
+/// Appends a sign, where the case sends, and all who received there have left.
+fn put_gone(out: &mut Vec<u8>, case: Case, gone: bool) -> Result<(), AllocError>
+    ensures { OnOk result (out.new.items ≡ out.old.items ++ gone_sign case gone) }
 {
-    put_number(out, b";", port.0.into())?;
-    put_back(out, b"L", place, sender)?;
-    put_back(out, b",", place, receiver)
+    match case {
+        Case::Send(_port, _value) if gone => out.extend_from_slice(b"!"),
+        _ => Ok(()),
+    }
+}
+
+/// Appends which steps moved values on the port of a case last, and whether all who received there have left.
+fn put_last(out: &mut Vec<u8>, place: u32, case: Case, there: AtPort) -> Result<(), AllocError>
+    ensures { OnOk result (out.new.items ≡ out.old.items ++ last_words place case there) }
+{
+    put_number(out, b";", case.port().0.into())?;
+    put_back(out, b"L", place, there.sender)?;
+    put_back(out, b",", place, there.receiver)?;
+    put_gone(out, case, there.gone)
 }
 
 /// Whether both send on one port, or both receive from it.
@@ -154,25 +159,29 @@ pub(crate) struct Stall<'a> {
     pub(crate) known: &'a Known<'a>,
     /// The step's place.
     pub(crate) place: u32,
-    /// Who had moved values last by then.
+    /// Who had moved values last by then, and who had left.
     pub(crate) last: &'a LastMoves,
     /// The calls that it stalled.
     pub(crate) stalled: &'a [Told],
 }
 
-/// Appends what is told of a case of a call, where these were the last.
+/// Appends what is told of a case of a call, where this is known of its port.
 fn put_waiting(
     out: &mut Vec<u8>,
     stall: &Stall<'_>,
     own: &Told,
-    sender: Option<Mover>,
-    receiver: Option<Mover>,
+    there: AtPort,
     case: Case,
 ) -> Result<(), AllocError>
     ensures { OnOk result (out.new.items ≡ out.old.items ++ case_words (entries_of stall.now.known.now)
-        stall.now.place stall.now.stalled.now own.now sender receiver case) }
+        stall.now.place stall.now.stalled.now own.now there case) }
 {
-    put_last(out, stall.place, case.port(), sender, receiver)?;
+    put_last(out, stall.place, case, there)?;
+    let AtPort {
+        sender,
+        receiver,
+        ..
+    } = there;
     let entries = stall.known.journal.entries();
     put_whom(
         out,
@@ -187,10 +196,7 @@ fn put_case(out: &mut Vec<u8>, stall: &Stall<'_>, own: &Told, case: &Case) -> Re
     ensures { OnOk result (out.new.items ≡ out.old.items
         ++ waiting_words (entries_of stall.now.known.now) (until stall.now) stall.now.place stall.now.stalled.now own.now case.now) }
 {
-    let port = case.port();
-    let sender = stall.last.sender(port);
-    let receiver = stall.last.receiver(port);
-    put_waiting(out, stall, own, sender, receiver, *case)
+    put_waiting(out, stall, own, stall.last.at(case.port()), *case)
 }
 
 /// Appends what is told of these cases of a call.

@@ -1,5 +1,5 @@
 -- What a loop keeps of a list, one item further.
-use Rattle.std.proofs.Common.{◌≡◌, ◌<◌, ◌+◌, ◌∙◌, ◌++◌, ◌∷◌, [], ℕ, Bool, true, false, List, length, get_or, drop, take, filter}
+use Rattle.std.proofs.Common.{◌≡◌, ◌<◌, ◌+◌, ◌∙◌, ◌++◌, ◌∷◌, [], ℕ, Bool, true, false, List, length, get_or, drop, take, filter, map}
 use Rattle.std.proofs.Common.{ap, sym, refl, add-one, append-nil, append_assoc}
 use Rattle.std.specs.Borrow.{Bor}
 use Rattle.std.specs.List.{flat_map}
@@ -61,6 +61,13 @@ flattened f xs i d old new all below at was is =
     let rest = flat_map f (drop (i + 1) xs) in
     ap (λ l. l ++ rest) is ∙ append_assoc old (f d) rest ∙ ap (λ x. old ++ (f x ++ rest)) at
     ∙ ap (λ l. old ++ l) (sym (at_drop_more (flat_map f) xs i d below)) ∙ was
+
+pub mapped : {X Y : Type 0} (f : X → Y) (xs : List X) (i : ℕ) (d : X) (old new all : List Y) → i < length xs → d ≡ get_or xs i d →
+    old ++ map f (drop i xs) ≡ all → new ≡ old ++ f d ∷ [] → new ++ map f (drop (i + 1) xs) ≡ all
+mapped f xs i d old new all below at was is =
+    let rest = map f (drop (i + 1) xs) in
+    ap (λ l. l ++ rest) is ∙ append_assoc old (f d ∷ []) rest ∙ ap (λ x. old ++ f x ∷ rest) at
+    ∙ ap (λ l. old ++ l) (sym (at_drop_more (map f) xs i d below)) ∙ was
 
 -- ---- the cases of a select
 pub offered : (w : What) (cs : List Case) (i : ℕ) (d : Case) (old new all : List ℕ) → i < length cs → d ≡ get_or cs i d →

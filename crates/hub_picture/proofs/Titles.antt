@@ -34,7 +34,7 @@ use Rattle.hub_picture.specs.Svg.Entries.{asked_title}
 use Rattle.hub_picture.specs.Svg.Legend.{mark_words}
 use Rattle.hub_picture.specs.Svg.Stalls.{stall_title}
 use Rattle.hub_picture.specs.Svg.Strips.{strip_title, level_title, count_of}
-use Rattle.hub_picture.specs.Svg.Waiters.{waiter_words}
+use Rattle.hub_picture.specs.Svg.Waiters.{gone_words, waiter_words}
 use Rattle.hub_picture.specs.Svg.Whom.{whom_words}
 use Rattle.hub_picture.specs.Plain.{IsPlain, ToldFits, AskedFits, StripFits, HeldFits, WaiterFits, LabelFits, PlainLaw}
 use Rattle.hub_picture.proofs.Plain.{plain-both, plain-number, plain-value, plain-joined, plain-line}
@@ -131,6 +131,11 @@ mover-plain (Some t) fits =
     (plain-both (codes "P") (decimal t.event.pid.0) refl (plain-number t.event.pid.0 (omega (arith, fits.event.pid))))
     (plain-both (codes " at step ") (decimal (t.by + 1)) refl (step-plain t.by fits.by))
 
+gone-plain : (c : Case) (gone : Bool) → IsPlain (gone_words c gone)
+gone-plain (case.Send p v) true = refl
+gone-plain (case.Send p v) false = refl
+gone-plain (case.Recv p) gone = refl
+
 waiter-plain : (w : Waiter) → WaiterFits w → IsPlain (waiter_words w)
 waiter-plain w fits =
     let pid : IsPlain (decimal w.told.event.pid.0) = plain-number w.told.event.pid.0 (omega (arith, fits.told.event.pid)) in
@@ -138,9 +143,11 @@ waiter-plain w fits =
     let aim : IsPlain (aim_text w.case) = aim-plain w.case fits.case in
     let sender : IsPlain (mover_text w.sender) = mover-plain w.sender fits.sender in
     let receiver : IsPlain (mover_text w.receiver) = mover-plain w.receiver fits.receiver in
+    let gone : IsPlain (gone_words w.case w.gone) = gone-plain w.case w.gone in
     plain-joined (codes "P" ∷ decimal w.told.event.pid.0 ∷ codes " has waited since step " ∷ decimal (w.told.asked + 1) ∷ aim_text w.case
-    ∷ codes "; last sent there by " ∷ mover_text w.sender ∷ codes ", last received by " ∷ mover_text w.receiver ∷ codes ". " ∷ [])
-    (refl, (pid, (refl, (from, (aim, (refl, (sender, (refl, (receiver, (refl, _))))))))))
+    ∷ codes "; last sent there by " ∷ mover_text w.sender ∷ codes ", last received by " ∷ mover_text w.receiver ∷ gone_words w.case w.gone
+    ∷ codes ". " ∷ [])
+    (refl, (pid, (refl, (from, (aim, (refl, (sender, (refl, (receiver, (gone, (refl, _)))))))))))
 
 whom-plain : (w : Option ℕ) → IfSome w (λ pid. pid ≤ GREATEST_PID) → IsPlain (whom_words w)
 whom-plain None fits = refl

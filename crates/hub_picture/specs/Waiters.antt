@@ -1,6 +1,7 @@
 -- Who waits in vain: whoever the last step of the window that stalls anyone stalls, and, where the window goes to the end,
--- whoever waits then. For each of their cases, who was the last to send on its port by then, and who to receive from it.
-use Rattle.std.specs.Prelude.{ℕ, zero, ◌==◌, ◌&&◌, Bool, nat_le, nat_lt, List, [], ◌∷◌, ◌++◌, filter, map, length}
+-- whoever waits then. For each of their cases, who was the last to send on its port by then, who to receive from it, and whether all
+-- who received there had left.
+use Rattle.std.specs.Prelude.{ℕ, zero, ◌+◌, ◌==◌, ◌&&◌, Bool, nat_le, nat_lt, List, [], ◌∷◌, ◌++◌, filter, map, length}
 use Rattle.std.specs.Prelude.{Option, None, Some, if◌then◌else◌}
 use Rattle.std.specs.List.{flat_map}
 use Rattle.hub_base.specs.declared.value.Port.{Port}
@@ -10,6 +11,8 @@ use Rattle.hub_story.specs.declared.levels.Level.{Level}
 use Rattle.hub_story.specs.declared.told.Told.{Told}
 use Rattle.hub_base.specs.Values.{cases_at}
 use Rattle.hub_story.specs.declared.window.Window.{Window}
+use Rattle.hub_story.specs.Levels.{told_by}
+use Rattle.hub_story.specs.Receivers.{gone_from}
 use Rattle.hub_picture.specs.declared.waiters.Side.{Side}
 use Rattle.hub_picture.specs.declared.waiters.Side.TheVariants.{Sends, Receives}
 use Rattle.hub_picture.specs.declared.waiters.Waiter.{Waiter}
@@ -45,6 +48,7 @@ waits_for es all step t c = record {
   case = c;
   sender = last_on Sends es all (port_of c) step;
   receiver = last_on Receives es all (port_of c) step;
+  gone = gone_from es (told_by (step + 1) all) (port_of c);
 }
 
 abbrev pub waiters_of : List Entry → List Told → ℕ → Told → List Waiter

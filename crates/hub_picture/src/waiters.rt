@@ -1,8 +1,10 @@
 //! Who waits in vain, and for what: the foot of a drawing.
 
-ghost use Rattle.std.specs.Prelude.{◌≡◌, ◌<◌, ◌-◌, ◌^◌, ◌++◌, filter, length, map, IfOk, OnOk};
+ghost use Rattle.std.specs.Prelude.{◌≡◌, ◌<◌, ◌+◌, ◌-◌, ◌^◌, ◌++◌, filter, length, map, IfOk, OnOk};
 ghost use Rattle.std.specs.List.{flat_map};
-ghost use Rattle.hub_picture.specs.Lasts.{AreLasts, lasts_on};
+ghost use Rattle.hub_story.specs.Levels.{told_by};
+ghost use Rattle.hub_story.specs.Receivers.{gone_from};
+ghost use Rattle.hub_picture.specs.Lasts.{AreLasts, IsStanding, lasts_on};
 ghost use Rattle.hub_picture.specs.Waiters.{all_waiters, count_on, is_by, last_on, last_step, later, open_in, passed_until};
 ghost use Rattle.hub_picture.specs.Waiters.{waiters_of, waits_for};
 
@@ -11,7 +13,7 @@ use crate::levels::{after, empty};
 use crate::moves::{Moves, OnPort};
 use hub_base::{Case, MOST_PORTS, Port};
 use hub_core::{CaseRoom, ShortEntries};
-use hub_story::{Level, Told};
+use hub_story::{Level, Receivers, Told};
 use std::alloc::{AllocError, Global};
 
 /// A call that waits, one of its cases, and who was the last at its port.
@@ -25,6 +27,8 @@ pub struct Waiter {
     pub sender: Option<Told>,
     /// The last receive from it.
     pub receiver: Option<Told>,
+    /// Whether somebody received there, and all who did have left.
+    pub gone: bool,
 }
 
 /// A side of a port.
@@ -123,12 +127,13 @@ struct Standing<'a> {
     step: u32,
     /// Who was the last at each port by then.
     lasts: &'a [Lasts],
+    /// Who had received there by then, and who had left.
+    receivers: &'a Receivers,
 }
 
 /// Who was the last at a port by then. No hub has a port for which that is not at hand.
 fn lasts_at(standing: &Standing<'_>, port: Port) -> Lasts
-    requires lasts { let moves = standing.now.moves.now in
-        AreLasts moves.entries.now moves.told.now standing.now.step standing.now.lasts.now }
+    requires { IsStanding standing.now }
     ensures { let moves = standing.now.moves.now in
         result ≡ lasts_on moves.entries.now moves.told.now standing.now.step port }
 {
@@ -141,19 +146,29 @@ fn lasts_at(standing: &Standing<'_>, port: Port) -> Lasts
     }
 }
 
+/// Whether somebody had received from a port by then, and all who did had left.
+fn is_left(standing: &Standing<'_>, port: Port) -> bool
+    requires { IsStanding standing.now }
+    ensures { let moves = standing.now.moves.now in
+        result ≡ gone_from moves.entries.now (told_by (standing.now.step + 1) moves.told.now) port }
+{
+    standing.receivers.are_gone(port)
+}
+
 /// What a call waits for by a case of it.
 fn waits_for(standing: &Standing<'_>, call: &Told, case: Case) -> Waiter
-    requires lasts { let moves = standing.now.moves.now in
-        AreLasts moves.entries.now moves.told.now standing.now.step standing.now.lasts.now }
+    requires { IsStanding standing.now }
     ensures { let moves = standing.now.moves.now in
         result ≡ waits_for moves.entries.now moves.told.now standing.now.step call.now case }
 {
-    let lasts = lasts_at(standing, case.port());
+    let port = case.port();
+    let lasts = lasts_at(standing, port);
     Waiter {
         told: *call,
         case,
         sender: lasts.sender,
         receiver: lasts.receiver,
+        gone: is_left(standing, port),
     }
 }
 
@@ -164,8 +179,7 @@ fn add_cases(
     call: &Told,
     cases: &[Case],
 ) -> Result<(), AllocError>
-    requires lasts { let moves = standing.now.moves.now in
-        AreLasts moves.entries.now moves.told.now standing.now.step standing.now.lasts.now }
+    requires { IsStanding standing.now }
     ensures { let moves = standing.now.moves.now in OnOk result (all.new.items ≡ all.old.items
         ++ map (waits_for moves.entries.now moves.told.now standing.now.step call.now) cases.now) }
 {
@@ -181,8 +195,7 @@ fn add_calls(
     standing: &Standing<'_>,
     calls: &[Told],
 ) -> Result<(), AllocError>
-    requires lasts { let moves = standing.now.moves.now in
-        AreLasts moves.entries.now moves.told.now standing.now.step standing.now.lasts.now }
+    requires { IsStanding standing.now }
     ensures { let moves = standing.now.moves.now in OnOk result (all.new.items ≡ all.old.items
         ++ flat_map (waiters_of moves.entries.now moves.told.now standing.now.step) calls.now) }
 {
@@ -212,10 +225,12 @@ fn add_waiters(
         return Ok(());
     }
     let lasts = all_lasts(alloc, moves, step)?;
+    let receivers = Receivers::until(alloc, moves.entries, moves.told, step)?;
     let standing = Standing {
         moves,
         step,
         lasts: &lasts,
+        receivers: &receivers,
     };
     add_calls(all, &standing, calls)
 }

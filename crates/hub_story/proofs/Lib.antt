@@ -13,3 +13,4 @@ pub mod Filling
 pub mod Editions
 pub mod OfPorts
 pub mod Clocks
+pub mod Gone

@@ -12,4 +12,5 @@ pub mod Windows
 pub mod Stories
 pub mod Laws
 pub mod OfPorts
+pub mod Receivers
 pub mod StoryRows

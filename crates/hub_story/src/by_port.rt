@@ -9,7 +9,7 @@ use std::alloc::{AllocError, Global};
 use std::marker::Model;
 
 /// How many numbers a case can give a port.
-const PORT_NUMBERS: usize = 65_536;
+pub const PORT_NUMBERS: usize = 65_536;
 
 /// Things of ports. Those of a port stand in the order in which they came.
 #[derive(Drop)]

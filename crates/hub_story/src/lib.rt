@@ -14,12 +14,13 @@ mod levels;
 mod moved;
 mod outside;
 mod passing;
+mod receivers;
 mod story;
 mod telling;
 mod told;
 mod window;
 
-pub use by_port::ByPort;
+pub use by_port::{ByPort, PORT_NUMBERS};
 pub use clock::clock_of;
 pub use exits::leaves;
 pub use laws::{
@@ -29,7 +30,8 @@ pub use laws::{
 pub use levels::Level;
 pub use moved::{Moved, Passage};
 pub use outside::{Outsider, any_told_to};
-pub use passing::{Side, moved_by};
+pub use passing::{Side, got_port, moved_by, sent_port};
+pub use receivers::Receivers;
 pub use story::{Story, story_of};
 pub use told::Told;
 pub use window::Window;

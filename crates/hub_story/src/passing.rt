@@ -1,9 +1,10 @@
 //! Which values went through a port, from which call to which.
 
-ghost use Rattle.std.specs.Prelude.{◌≡◌, Some, IfOk};
+ghost use Rattle.std.specs.Prelude.{◌≡◌, ◌<◌, Some, IfOk, IfSome};
 ghost use Rattle.hub_story.specs.Passing.{beside, moved_by, passages};
-ghost use Rattle.hub_story.specs.Sides.{moves_on, value_on};
+ghost use Rattle.hub_story.specs.Sides.{got_port, moves_on, sent_port, value_on};
 
+use crate::by_port::PORT_NUMBERS;
 use crate::{Moved, Passage, Told};
 use hub_base::{Case, Outcome, Port, Value, What};
 use hub_core::ShortEntries;
@@ -25,6 +26,28 @@ fn value_on(side: Side, port: Port, case: Case, outcome: Outcome) -> Option<Valu
     match (side, case, outcome) {
         (Side::Sends, Case::Send(on, value), Outcome::Sent) if on.0 == port.0 => Some(value),
         (Side::Receives, Case::Recv(on), Outcome::Got(value)) if on.0 == port.0 => Some(value),
+        _ => None,
+    }
+}
+
+/// On which port a case with this outcome sent a value.
+pub fn sent_port(case: Case, outcome: Outcome) -> Option<Port>
+    ensures value { result ≡ sent_port case outcome }
+    ensures few { IfSome result (λ port. port.0 < PORT_NUMBERS) }
+{
+    match (case, outcome) {
+        (Case::Send(port, _), Outcome::Sent) => Some(port),
+        _ => None,
+    }
+}
+
+/// From which port it received one.
+pub fn got_port(case: Case, outcome: Outcome) -> Option<Port>
+    ensures value { result ≡ got_port case outcome }
+    ensures few { IfSome result (λ port. port.0 < PORT_NUMBERS) }
+{
+    match (case, outcome) {
+        (Case::Recv(port), Outcome::Got(_)) => Some(port),
         _ => None,
     }
 }

@@ -23,7 +23,7 @@ use Rattle.hub_story.specs.OfPorts.{things_on}
 use Rattle.hub_story.specs.Passing.{beside, moved_by, receives, sends}
 use Rattle.hub_story_text.specs.declared.port_moves.PortMove.{PortMove}
 use Rattle.hub_story_text.specs.declared.port_moves.PortMoves.{PortMoves}
-use Rattle.hub_story_text.specs.LastMoves.{got_port, sent_port}
+use Rattle.hub_story.specs.Sides.{got_port, sent_port}
 use Rattle.hub_story_text.specs.Partners.{both_ways, ways_of}
 use Rattle.hub_story_text.specs.PortMoves.{AreMore, AreMoves, is_on, move_at, move_of, moves_on, on_port, paired, places_on, port_of, steps_on}
 use Rattle.hub_story_text.proofs.Levels.{steps_of}

@@ -1,8 +1,8 @@
 -- The text of the steps, one by one.
-use Rattle.std.proofs.Common.{◌≡◌, ◌<◌, ◌+◌, ◌==◌, ◌&&◌, ℕ, Bool, true, false, not, arith, List, [], ◌∷◌}
+use Rattle.std.proofs.Common.{◌≡◌, ◌<◌, ◌+◌, ℕ, Bool, true, false, List, [], ◌∷◌}
 use Rattle.std.proofs.Common.{◌++◌, length, drop, filter, refl, ap, ◌∙◌, sym, append_assoc, get_or, codes}
 use Rattle.std.proofs.Common.{Option, Some, if◌then◌else◌, add-one}
-use Rattle.std.specs.List.{flat_map, list_all, list_any}
+use Rattle.std.specs.List.{flat_map}
 use Rattle.std.proofs.Math.Seq.{drop-cons}
 use Rattle.hub_base.specs.declared.value.Pid.{Pid}
 use Rattle.hub_base.specs.declared.value.Port.{Port}
@@ -13,19 +13,21 @@ use Rattle.hub_story.specs.declared.told.Told.{Told}
 use Rattle.hub_story.specs.Leavers.{leavers}
 use Rattle.hub_story.specs.Levels.{told_by}
 use Rattle.hub_story.specs.OfPorts.{things_on}
-use Rattle.hub_story.specs.Outside.{is_told_to}
+use Rattle.hub_story.specs.Receivers.{are_gone}
 use Rattle.hub_story.specs.Waiting.{is_stalled}
 use Rattle.hub_base.specs.Values.{cases_at}
+use Rattle.hub_story_text.specs.declared.last_moves.AtPort.{AtPort}
 use Rattle.hub_story_text.specs.declared.last_moves.Mover.{Mover}
 use Rattle.hub_story_text.specs.declared.last_moves.LastMoves.{LastMoves}
 use Rattle.hub_story.specs.declared.window.Window.{Window}
 use Rattle.hub_story_text.specs.Clock.{to_others}
-use Rattle.hub_story_text.specs.LastMoves.{AreLast, AtPort, are_gone, known_at, known_of, last_sender, last_receiver, mover_at, receivers}
+use Rattle.hub_story_text.specs.LastMoves.{AreLast, known_at, known_of, last_sender, last_receiver, mover_at}
 use Rattle.hub_story_text.specs.StoryText.{came_by, stall_heading, steps_text, step_text, who_waits}
 use Rattle.hub_story_text.specs.declared.paint.Paint.{Paint}
 use Rattle.hub_story_text.specs.Paint.{painted_line}
 use Rattle.hub_story_text.specs.WaiterText.{case_words, gone_words, left_words, port_words, waiter_words, waiters_words, who_words}
 use Rattle.hub_story.specs.Windows.{has}
+use Rattle.hub_story.proofs.Gone.{gone-is}
 use Rattle.hub_story_text.proofs.Groups.{stalled-came}
 
 -- ---- the same movers give the same words
@@ -46,38 +48,23 @@ same-waiters nobody heading es k k' h left (t ∷ ts) =
     (λ t. ap (λ l. who_words (codes " waits since step ") t ++ l)
     (same-flat (case_words k) (case_words k') (same-case k k' h) (cases_at es t.asked))) (t ∷ ts))
 
--- of whom any test has the same answer, they are gone or not
-none-of : (ns : List ℕ) → (length ns == 0) ≡ list_all (λ n. false) ns
-none-of [] = refl
-none-of (n ∷ ns) = grind arith
-
-same-gone : (left : List Told) (ns ms : List ℕ) → ((test : ℕ → Bool) → list_all test ns ≡ list_all test ms) → are_gone left ns ≡ are_gone left ms
-same-gone left ns ms same =
-    ap (λ b. not b && list_all (has_left left) ns) (none-of ns ∙ same (λ n. false) ∙ sym (none-of ms))
-    ∙ ap (λ b. not (length ms == 0) && b) (same (has_left left))
-  where
-    has_left : List Told → ℕ → Bool
-    has_left left n = list_any (is_told_to n) left
-
 abbrev at : Option Mover → Option Mover → Bool → AtPort
 at s r g = record { sender = s; receiver = r; gone = g }
 
 -- what the tables tell of a port
-known-is : (es : List Entry) (until : List Told) (moves : LastMoves) → AreLast es until moves → (p : Port) → known_at moves p ≡ known_of es until p
+pub known-is : (es : List Entry) (until : List Told) (moves : LastMoves) → AreLast es until moves → (p : Port) → known_at moves p ≡ known_of es until p
 known-is es until moves so p =
-    ap (λ s. at s (mover_at moves.received.items p) (are_gone moves.left.items (things_on moves.receivers p))) (so.sent p)
-    ∙ ap (λ r. at (last_sender es until p) r (are_gone moves.left.items (things_on moves.receivers p))) (so.received p)
-    ∙ ap (at (last_sender es until p) (last_receiver es until p))
-    (ap (λ left. are_gone left (things_on moves.receivers p)) so.left
-    ∙ same-gone (leavers es until) (things_on moves.receivers p) (receivers es until p) (so.receivers p))
+    ap (λ s. at s (mover_at moves.received.items p) (are_gone moves.receivers.left.items (things_on moves.receivers.pids p))) (so.sent p)
+    ∙ ap (λ r. at (last_sender es until p) r (are_gone moves.receivers.left.items (things_on moves.receivers.pids p))) (so.received p)
+    ∙ ap (at (last_sender es until p) (last_receiver es until p)) (gone-is es until moves.receivers so.receivers p)
 
 -- what the tables tell
 pub waiters-told : (nobody heading : List ℕ) (clock : Option Pid) (es : List Entry) (until : List Told) (moves : LastMoves) → AreLast es until moves →
     (ts : List Told) →
-    waiters_words nobody heading es (known_at moves) moves.left.items (to_others clock ts)
+    waiters_words nobody heading es (known_at moves) moves.receivers.left.items (to_others clock ts)
     ≡ who_waits nobody heading clock es until ts
 waiters-told nobody heading clock es until moves so ts =
-    ap (λ left. waiters_words nobody heading es (known_at moves) left (to_others clock ts)) so.left
+    ap (λ left. waiters_words nobody heading es (known_at moves) left (to_others clock ts)) so.receivers.left
     ∙ same-waiters nobody heading es (known_at moves) (known_of es until) (known-is es until moves so) (leavers es until) (to_others clock ts)
 
 -- ---- one step more
@@ -121,12 +108,12 @@ inside h = cc
 pub step-is : (paint : Paint) (clock : Option Pid) (es : List Entry) (all : List Told) (place : ℕ) (e : Entry) (came : List Told) (moves : LastMoves) →
     came ≡ came_by place all → AreLast es (told_by (place + 1) all) moves →
     painted_line paint clock es all place e came
-    ++ waiters_words [] stall_heading es (known_at moves) moves.left.items
+    ++ waiters_words [] stall_heading es (known_at moves) moves.receivers.left.items
     (to_others clock (filter (λ t. is_stalled t.event.what) came))
     ≡ step_text paint clock es all place e
 step-is paint clock es all place e came moves same last =
     ap (λ l. painted_line paint clock es all place e l
-    ++ waiters_words [] stall_heading es (known_at moves) moves.left.items
+    ++ waiters_words [] stall_heading es (known_at moves) moves.receivers.left.items
     (to_others clock (filter (λ t. is_stalled t.event.what) l))) same
     ∙ ap (λ l. painted_line paint clock es all place e (came_by place all) ++ l)
     (waiters-told [] stall_heading clock es (told_by (place + 1) all) moves last (filter (λ t. is_stalled t.event.what) (came_by place all))

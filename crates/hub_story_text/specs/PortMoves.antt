@@ -11,7 +11,7 @@ use Rattle.hub_story.specs.declared.told.Told.{Told}
 use Rattle.hub_story.specs.OfPorts.{things_on}
 use Rattle.hub_story_text.specs.declared.port_moves.PortMove.{PortMove}
 use Rattle.hub_story_text.specs.declared.port_moves.PortMoves.{PortMoves}
-use Rattle.hub_story_text.specs.LastMoves.{sent_port, got_port}
+use Rattle.hub_story.specs.Sides.{sent_port, got_port}
 
 -- the port that is picked of a case, if there is one
 abbrev pub port_of : (Case → Outcome → Option Port) → Option Case → Outcome → Option Port

@@ -8,8 +8,8 @@ use Rattle.hub_base.specs.declared.case.Case.TheVariants.{Send, Recv}
 use Rattle.hub_base.specs.Entry.{Entry}
 use Rattle.hub_story.specs.declared.told.Told.{Told}
 use Rattle.hub_base.specs.Values.{cases_at}
+use Rattle.hub_story_text.specs.declared.last_moves.AtPort.{AtPort}
 use Rattle.hub_story_text.specs.declared.last_moves.Mover.{Mover}
-use Rattle.hub_story_text.specs.LastMoves.{AtPort}
 
 abbrev pub mover_words : Option Mover → List ℕ
 mover_words None = codes "nobody"

@@ -1,11 +1,12 @@
 //! What the clock of a journal, the process by which calls time out, has to do with its events.
 
 ghost use Rattle.std.specs.Prelude.{◌≡◌, IfOk};
+ghost use Rattle.hub_story.specs.Clock.{clock_of};
 ghost use Rattle.hub_story_text.specs.Clock.{is_by_clock, is_clock, part_of, to_others};
 
 use hub_base::Pid;
-use hub_core::ShortEntries;
-use hub_story::Told;
+use hub_core::{ShortEntries, ShortJournal};
+use hub_story::{Told, clock_of};
 use std::alloc::{AllocError, Global};
 
 /// What the clock has to do with an event.
@@ -17,6 +18,13 @@ pub(crate) enum Part {
     OwnStep,
     /// Neither.
     NoPart,
+}
+
+/// The clock of a journal, if it has one.
+pub fn clock_in(journal: &ShortJournal) -> Option<Pid>
+    ensures { result ≡ clock_of journal.now.head journal.now.entries }
+{
+    clock_of(journal.head(), journal.entries())
 }
 
 /// Whether the process is the clock.

@@ -1,23 +1,16 @@
 //! Who was the last to send on a port, and to receive from it; who received there; and who has left.
 
-ghost use Rattle.std.specs.Prelude.{◌≡◌, ◌<◌, ◌∷◌, ◌++◌, ℕ, Bool, List, [], filter, length, IfOk, IfSome, OnOk};
-ghost use Rattle.std.specs.List.{list_all, list_any};
+ghost use Rattle.std.specs.Prelude.{◌≡◌, ◌<◌, ◌∷◌, ◌++◌, List, [], length, IfOk, IfSome, OnOk};
 ghost use Rattle.hub_base.specs.declared.value.Port.{Port as PortNumber};
 ghost use Rattle.hub_base.specs.Entry.{Entry};
-ghost use Rattle.hub_story.specs.declared.told.Told.{Told};
-ghost use Rattle.hub_story_text.specs.LastMoves.{AreLast, AreNext, IsWhole, are_gone, got_port, got_there, mover_at};
-ghost use Rattle.hub_story_text.specs.LastMoves.{receivers, sent_port, with_mover};
-ghost use Rattle.hub_story.specs.Leavers.{leaves};
-ghost use Rattle.hub_story.specs.OfPorts.{things_on};
-ghost use Rattle.hub_story.specs.Outside.{is_told_to};
+ghost use Rattle.hub_story.specs.declared.told.Told.{Told as Event};
+ghost use Rattle.hub_story.specs.Receivers.{AreReceivers, got_there, receivers};
+ghost use Rattle.hub_story_text.specs.LastMoves.{AreLast, AreNext, IsWhole, known_at, mover_at, with_mover};
 
-use hub_base::{Case, Outcome, Pid, Port, What};
+use hub_base::{Pid, Port, What};
 use hub_core::ShortEntries;
-use hub_story::{ByPort, Told, any_told_to, leaves};
+use hub_story::{PORT_NUMBERS, Receivers, Told, got_port, sent_port};
 use std::alloc::{AllocError, Global};
-
-/// How many numbers a case can give a port.
-pub const PORT_NUMBERS: usize = 65_536;
 
 /// A process, and the place of its entry.
 #[derive(Clone, Copy, Debug, PartialEq, Eq)]
@@ -35,32 +28,19 @@ pub struct LastMoves {
     pub sent: Vec<Option<Mover>>,
     /// Who was the last to receive a value.
     pub received: Vec<Option<Mover>>,
-    /// Who received values, each process once.
-    pub receivers: ByPort<u8>,
-    /// The exits that were done, in order.
-    pub left: Vec<Told>,
+    /// Who received values, and who has left.
+    pub receivers: Receivers,
 }
 
-/// On which port a case with this outcome sent a value.
-pub fn sent_port(case: Case, outcome: Outcome) -> Option<Port>
-    ensures value { result ≡ sent_port case outcome }
-    ensures few { IfSome result (λ port. port.0 < PORT_NUMBERS) }
-{
-    match (case, outcome) {
-        (Case::Send(port, _), Outcome::Sent) => Some(port),
-        _ => None,
-    }
-}
-
-/// From which port it received one.
-pub fn got_port(case: Case, outcome: Outcome) -> Option<Port>
-    ensures value { result ≡ got_port case outcome }
-    ensures few { IfSome result (λ port. port.0 < PORT_NUMBERS) }
-{
-    match (case, outcome) {
-        (Case::Recv(port), Outcome::Got(_)) => Some(port),
-        _ => None,
-    }
+/// What is known of a port.
+#[derive(Clone, Copy, Debug, PartialEq, Eq)]
+pub struct AtPort {
+    /// Who was the last to send there.
+    pub sender: Option<Mover>,
+    /// Who was the last to receive a value.
+    pub receiver: Option<Mover>,
+    /// Whether somebody received there, and all who did have left.
+    pub gone: bool,
 }
 
 /// Takes in that this one was the last on the port, if there is one.
@@ -73,37 +53,6 @@ fn set_mover(table: &mut Vec<Option<Mover>>, port: Option<Port>, mover: Mover)
     }
 }
 
-/// Takes in that the process received from this port, if there is one.
-fn note_receiver(receivers: &mut ByPort<u8>, port: Option<Port>, pid: u8) -> Result<(), AllocError>
-    ensures { OnOk result ((p : PortNumber) (test : ℕ → Bool) →
-        list_all test (things_on receivers.new p) ≡ list_all test (things_on receivers.old p ++ got_there p port pid)) }
-{
-    let Some(port) = port else {
-        return Ok(());
-    };
-    if receivers.on(port).contains(&pid) {
-        return Ok(());
-    }
-    receivers.push(port, pid)
-}
-
-/// Whether all these processes have left.
-fn have_left(left: &[Told], pids: &[u8]) -> bool
-    ensures { result ≡ list_all (λ n. list_any (is_told_to n) left.now) pids.now }
-{
-    pids.iter().all(|pid| any_told_to(*pid, left))
-}
-
-/// Takes in who leaves by the next event, if anybody does.
-fn note_leaver(left: &mut Vec<Told>, entries: &ShortEntries, told: &Told) -> Result<(), AllocError>
-    ensures { OnOk result (left.new.items ≡ left.old.items ++ filter (leaves entries.now) (told.now ∷ [])) }
-{
-    if leaves(entries, told) {
-        left.push(*told)?;
-    }
-    Ok(())
-}
-
 impl LastMoves {
     /// Nobody has.
     pub fn new(alloc: Global) -> Result<LastMoves, AllocError>
@@ -113,8 +62,7 @@ impl LastMoves {
         Ok(LastMoves {
             sent: vec![in alloc; None; PORT_NUMBERS]?,
             received: vec![in alloc; None; PORT_NUMBERS]?,
-            receivers: ByPort::new(alloc)?,
-            left: Vec::new(alloc),
+            receivers: Receivers::new(alloc)?,
         })
     }
 
@@ -124,7 +72,6 @@ impl LastMoves {
         ensures next { AreNext entries.now told.now self.old self.new }
         ensures port { (p : PortNumber) → receivers entries.now (told.now ∷ []) p ≡ got_there p result told.now.event.pid.0 }
         ensures receivers { self.new.receivers ≡ self.old.receivers }
-        ensures left { self.new.left.items ≡ self.old.left.items }
         ensures whole { IsWhole self.new }
     {
         let What::Fired { case, outcome } = told.event.what else {
@@ -145,22 +92,19 @@ impl LastMoves {
     fn note(&mut self, entries: &ShortEntries, told: &Told) -> Result<(), AllocError>
         requires { IsWhole self.old }
         ensures next { OnOk result (AreNext entries.now told.now self.old self.new) }
-        ensures receivers { OnOk result ((p : PortNumber) (test : ℕ → Bool) → list_all test (things_on self.new.receivers p)
-            ≡ list_all test (things_on self.old.receivers p ++ receivers entries.now (told.now ∷ []) p)) }
-        ensures left { OnOk result (
-            self.new.left.items ≡ self.old.left.items ++ filter (leaves entries.now) (told.now ∷ [])) }
+        ensures receivers { OnOk result ((before : List Event) → AreReceivers entries.now before self.old.receivers
+            → AreReceivers entries.now (before ++ told.now ∷ []) self.new.receivers) }
         ensures whole { IsWhole self.new }
     {
         let port = self.note_mover(entries, told);
-        note_receiver(&mut self.receivers, port, told.event.pid.0)?;
-        note_leaver(&mut self.left, entries, told)
+        self.receivers.note(entries, told, port)
     }
 
     /// Takes in these events, in order, behind those so far.
     pub fn note_all(&mut self, entries: &ShortEntries, told: &[Told]) -> Result<(), AllocError>
         requires { IsWhole self.old }
         ensures last { OnOk result (
-            (before : List Told) → AreLast entries.now before self.old → AreLast entries.now (before ++ told.now) self.new) }
+            (before : List Event) → AreLast entries.now before self.old → AreLast entries.now (before ++ told.now) self.new) }
         ensures whole { IsWhole self.new }
     {
         for told in told {
@@ -169,25 +113,27 @@ impl LastMoves {
         Ok(())
     }
 
-    /// Whether some process received from the port, and all that did have left.
-    pub fn are_gone(&self, port: Port) -> bool
-        ensures { result ≡ are_gone self.now.left.items (things_on self.now.receivers port) }
-    {
-        let receivers = self.receivers.on(port);
-        !receivers.is_empty() && have_left(&self.left, receivers)
-    }
-
     /// Who was the last to send on the port.
-    pub fn sender(&self, port: Port) -> Option<Mover>
+    fn sender(&self, port: Port) -> Option<Mover>
         ensures { result ≡ mover_at self.now.sent.items port }
     {
         *self.sent.get(usize::from(port.0))?
     }
 
     /// Who was the last to receive from it.
-    pub fn receiver(&self, port: Port) -> Option<Mover>
+    fn receiver(&self, port: Port) -> Option<Mover>
         ensures { result ≡ mover_at self.now.received.items port }
     {
         *self.received.get(usize::from(port.0))?
+    }
+    /// What they tell of the port.
+    pub fn at(&self, port: Port) -> AtPort
+        ensures { result ≡ known_at self.now port }
+    {
+        AtPort {
+            sender: self.sender(port),
+            receiver: self.receiver(port),
+            gone: self.receivers.are_gone(port),
+        }
     }
 }

@@ -25,8 +25,9 @@ mod waiters;
 mod waits;
 
 pub use block::{Block, MOST_BLOCK};
+pub use clock::clock_in;
 pub use hub_story::Window;
-pub use last_moves::{LastMoves, Mover, PORT_NUMBERS, got_port, sent_port};
+pub use last_moves::{AtPort, LastMoves, Mover};
 pub use packed_text::PackedText;
 pub use paint::Paint;
 pub use partners::all_partners;

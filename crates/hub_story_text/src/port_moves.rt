@@ -13,10 +13,9 @@ ghost use Rattle.hub_story_text.specs.Fullest.{IsUp, fullest_of};
 ghost use Rattle.hub_story_text.specs.PortMoves.{AreMore, AreMoves, is_on, move_at, places_on, steps_on};
 
 use crate::fullest::{Fullest, fullest_of};
-use crate::last_moves::{got_port, sent_port};
 use hub_base::{Port, What};
 use hub_core::ShortEntries;
-use hub_story::{ByPort, Level, Told};
+use hub_story::{ByPort, Level, Told, got_port, sent_port};
 use std::alloc::{AllocError, Global};
 
 /// A call that moved a value.

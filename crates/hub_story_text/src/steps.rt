@@ -63,7 +63,7 @@ fn put_stalled(
 ) -> Result<(), NoMemory>
     ensures { OnOk result (out.new.items ≡ out.old.items
         ++ waiters_words [] stall_heading (entries_of explained.now)
-        (known_at moves.now) moves.now.left.items
+        (known_at moves.now) moves.now.receivers.left.items
         (to_others explained.now.clock (filter (λ t. is_stalled t.event.what) came.now))) }
 {
     let stalled = stalled_of(*out.allocator(), came)?;
@@ -93,7 +93,7 @@ pub(crate) fn put_steps(
         (told_by (length (entries_of explained.now)) (told_of explained.now)) moves.new) }
 {
     let entries = explained.journal.entries();
-    let mut line = Vec::new(*moves.left.allocator());
+    let mut line = Vec::new(*moves.receivers.left.allocator());
     let mut room = CaseRoom::new();
     let mut rest: &[Told] = &explained.story.told;
     for place in 0..entries.len() {

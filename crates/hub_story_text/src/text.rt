@@ -8,7 +8,7 @@ ghost use Rattle.hub_story_text.specs.Partners.{AreIn, ways};
 ghost use Rattle.hub_story_text.specs.StoryText.{painted_text, ports_text, story_text, text_with};
 
 use crate::Window;
-use crate::clock::to_others;
+use crate::clock::{clock_in, to_others};
 use crate::explained::Explained;
 use crate::last_moves::LastMoves;
 use crate::outside::put_outside;
@@ -22,7 +22,7 @@ use crate::waiters::put_waiters;
 use crate::waits::put_waits;
 use hub_base::NoMemory;
 use hub_core::ShortJournal;
-use hub_story::{Story, clock_of};
+use hub_story::Story;
 use std::alloc::Global;
 
 const HEADING: &[u8] =
@@ -78,7 +78,7 @@ fn put_story(
     let mut rest = ports;
     put_waits(&mut rest, explained)?;
     let others = to_others(
-        *last.left.allocator(),
+        *last.receivers.left.allocator(),
         explained.clock,
         &explained.story.waiting,
     )?;
@@ -114,7 +114,7 @@ fn push_painted(
     let explained = Explained {
         journal,
         story,
-        clock: clock_of(journal.head(), journal.entries()),
+        clock: clock_in(journal),
         partners: &partners,
         paint,
     };

@@ -5,7 +5,7 @@ ghost use Rattle.std.specs.List.{flat_map};
 ghost use Rattle.hub_story_text.specs.LastMoves.{known_at};
 ghost use Rattle.hub_story_text.specs.WaiterText.{case_words, gone_words, left_words, mover_words, port_words, waiter_words, waiters_words, who_words};
 
-use crate::last_moves::{LastMoves, Mover};
+use crate::last_moves::{AtPort, LastMoves, Mover};
 use crate::numbers::{number_of, put_number};
 use hub_base::{Case, Port};
 use hub_core::{CaseRoom, ShortEntries};
@@ -27,12 +27,12 @@ fn put_mover(out: &mut Vec<u8>, words: &[u8], mover: Option<Mover>) -> Result<()
 }
 
 /// Appends a port, and who was the last there.
-fn put_port(out: &mut Vec<u8>, moves: &LastMoves, port: Port) -> Result<(), AllocError>
-    ensures { OnOk result (out.new.items ≡ out.old.items ++ port_words (known_at moves.now port) port) }
+fn put_port(out: &mut Vec<u8>, known: AtPort, port: Port) -> Result<(), AllocError>
+    ensures { OnOk result (out.new.items ≡ out.old.items ++ port_words known port) }
 {
     put_number(out, b"", port.0.into())?;
-    put_mover(out, b": last sent by ", moves.sender(port))?;
-    put_mover(out, b", last received by ", moves.receiver(port))
+    put_mover(out, b": last sent by ", known.sender)?;
+    put_mover(out, b", last received by ", known.receiver)
 }
 
 /// Appends that all who received there have left, where this is so.
@@ -47,24 +47,24 @@ fn put_gone(out: &mut Vec<u8>, gone: bool) -> Result<(), AllocError>
 }
 
 /// Appends that a case waits to send on the port.
-fn put_send(out: &mut Vec<u8>, moves: &LastMoves, port: Port) -> Result<(), AllocError>
+fn put_send(out: &mut Vec<u8>, known: AtPort, port: Port) -> Result<(), AllocError>
     ensures { OnOk result (out.new.items ≡ out.old.items ++ (codes "            to send on port "
-        ++ port_words (known_at moves.now port) port ++ gone_words (known_at moves.now port).gone ++ codes "\n")) }
+        ++ port_words known port ++ gone_words known.gone ++ codes "\n")) }
 {
     out.extend_from_slice(b"            to send on port ")?;
-    put_port(out, moves, port)?;
-    put_gone(out, moves.are_gone(port))?;
+    put_port(out, known, port)?;
+    put_gone(out, known.gone)?;
     out.extend_from_slice(b"\n")?;
     Ok(())
 }
 
 /// Appends that it waits to receive from it.
-fn put_receive(out: &mut Vec<u8>, moves: &LastMoves, port: Port) -> Result<(), AllocError>
+fn put_receive(out: &mut Vec<u8>, known: AtPort, port: Port) -> Result<(), AllocError>
     ensures { OnOk result (out.new.items ≡ out.old.items ++ (codes "            to receive from port "
-        ++ port_words (known_at moves.now port) port ++ codes "\n")) }
+        ++ port_words known port ++ codes "\n")) }
 {
     out.extend_from_slice(b"            to receive from port ")?;
-    put_port(out, moves, port)?;
+    put_port(out, known, port)?;
     out.extend_from_slice(b"\n")?;
     Ok(())
 }
@@ -74,8 +74,8 @@ fn put_case(out: &mut Vec<u8>, moves: &LastMoves, case: Case) -> Result<(), Allo
     ensures { OnOk result (out.new.items ≡ out.old.items ++ case_words (known_at moves.now) case) }
 {
     match case {
-        Case::Send(port, _) => put_send(out, moves, port),
-        Case::Recv(port) => put_receive(out, moves, port),
+        Case::Send(port, _) => put_send(out, moves.at(port), port),
+        Case::Recv(port) => put_receive(out, moves.at(port), port),
     }
 }
 
@@ -151,12 +151,12 @@ pub(crate) fn put_waiters(
     waiters: &[Told],
 ) -> Result<(), AllocError>
     ensures { OnOk result (out.new.items ≡ out.old.items ++ waiters_words nobody.now heading.now entries.now
-        (known_at moves.now) moves.now.left.items waiters.now) }
+        (known_at moves.now) moves.now.receivers.left.items waiters.now) }
 {
     if waiters.is_empty() {
         return out.extend_from_slice(nobody);
     }
     out.extend_from_slice(heading)?;
-    put_left(out, &moves.left)?;
+    put_left(out, &moves.receivers.left)?;
     put_calls(out, entries, moves, waiters)
 }

@@ -50,10 +50,10 @@ function readBlock(journal, at) {  // steps, ends by them in their order, levels
     for (const [row, line] of journal.text.slice(...journal.bounds[at]).split(\"\\n\").entries()) {
         const [first, ...items] = line.split(\";\"), place = at * BLOCK + row, entry = /(\\d+)(.)(.*)/.exec(first);
         block.steps.push(entry && new Step(journal, place, entry));
-        for (const [, one, sign, two, three] of items.map((item) => /(\\d+)(.)(\\d*).?(\\d*)/.exec(item))) {
+        for (const [, one, sign, two, three, gone] of items.map((item) => /(\\d+)(.)(\\d*).?(\\d*)(!?)/.exec(item))) {
             if (sign === \":\") block.levels.push({ port: Number(one), from: place, count: Number(two) });
             else if (sign === \">\") stall(place).last.at(-1).other = Number(two);
-            else if (sign === \"L\") stall(place).last.push({ port: Number(one), movers: [two, three].map((back) => (back ? place - back : -1)) });
+            else if (sign === \"L\") stall(place).last.push({ port: Number(one), movers: [two, three].map((back) => (back ? place - back : -1)), gone });
             else block.ends.set(place - one, { by: place, letter: sign, number: Number(two), sender: place - three });
             if (sign === \"S\") stall(place).calls.push(place - one);
         }
@@ -97,10 +97,11 @@ class Journal {
         }
     }
     blockAt(place) { return Math.floor(place / BLOCK); }
-    endOfBlock(at) { return Math.min(this.steps, (at + 1) * BLOCK); }
 ";
 
-pub(super) const SECOND: &str = "    block(at) {
+pub(super) const SECOND: &str =
+    "    endOfBlock(at) { return Math.min(this.steps, (at + 1) * BLOCK); }
+    block(at) {
         if (this.read.size > MOST_READ) this.read.clear();
         return this.read.get(at) ?? this.read.set(at, readBlock(this, at)).get(at);
     }

@@ -1,11 +1,18 @@
 -- Who waits in vain, and for what: a row for each case; and who is outside the hub: a row each.
-use Rattle.std.specs.Prelude.{ℕ, ◌+◌, List, [], ◌∷◌, ◌++◌, codes, decimal, Option, None, Some}
+use Rattle.std.specs.Prelude.{ℕ, ◌+◌, Bool, true, List, [], ◌∷◌, ◌++◌, codes, decimal, Option, None, Some}
+use Rattle.hub_base.specs.declared.case.Case.{Case}
+use Rattle.hub_base.specs.declared.case.Case.TheVariants.{Send}
 use Rattle.hub_story.specs.declared.outside.Outsider.{Outsider}
 use Rattle.hub_story.specs.declared.told.Told.{Told}
 use Rattle.hub_picture.specs.declared.drawing.Drawing.{Drawing}
 use Rattle.hub_picture.specs.declared.waiters.Waiter.{Waiter}
 use Rattle.hub_picture.specs.Pieces.{aim_text, mover_text, joined}
 use Rattle.hub_picture.specs.Svg.Whom.{whom, whom_words}
+
+-- where a case sends, and all who received there have left
+abbrev pub gone_words : Case → Bool → List ℕ
+gone_words (Send p v) true = codes "; all who received there have left"
+gone_words c gone = []
 
 abbrev pub waiter_words : Waiter → List ℕ
 waiter_words w =
@@ -15,6 +22,7 @@ waiter_words w =
     ∷ aim_text w.case
     ∷ codes "; last sent there by " ∷ mover_text w.sender
     ∷ codes ", last received by " ∷ mover_text w.receiver
+    ∷ gone_words w.case w.gone
     ∷ codes ". "
     ∷ [])
 

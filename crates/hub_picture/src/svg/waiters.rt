@@ -1,15 +1,27 @@
 //! The rows of those who wait in vain, and of those who are outside the hub.
 
+ghost use Rattle.std.specs.Prelude.{◌≡◌};
 ghost use Rattle.hub_picture.specs.Pieces.{Appends};
-ghost use Rattle.hub_picture.specs.Svg.Waiters.{deadlock_text, last_words, outsider_text, waiter_text, waiter_told, waiter_words};
+ghost use Rattle.hub_picture.specs.Svg.Waiters.{deadlock_text, gone_words, last_words, outsider_text, waiter_text, waiter_told, waiter_words};
 
 use super::whom::{put_whom_words, whom};
 use crate::frame::number_of;
 use crate::pen::Pen;
 use crate::piece::{Piece, put, put_filled, put_pieces};
 use crate::{Drawing, Waiter};
+use hub_base::Case;
 use hub_story::{Outsider, Told};
 use std::alloc::AllocError;
+
+/// That all who received there have left, where a case sends, and this is so.
+fn gone_words(case: Case, gone: bool) -> &'static [u8]
+    ensures { result.now ≡ gone_words case gone }
+{
+    match case {
+        Case::Send(_port, _value) if gone => b"; all who received there have left",
+        _ => b"",
+    }
+}
 
 /// Appends what is told of a waiter.
 fn put_words(out: &mut Vec<u8>, waiter: &Waiter) -> Result<(), AllocError>
@@ -27,6 +39,7 @@ fn put_words(out: &mut Vec<u8>, waiter: &Waiter) -> Result<(), AllocError>
             Piece::Mover(waiter.sender),
             Piece::Word(b", last received by "),
             Piece::Mover(waiter.receiver),
+            Piece::Word(gone_words(waiter.case, waiter.gone)),
             Piece::Word(b". "),
         ],
     )

@@ -8,16 +8,16 @@ pub loop-place-preserved : goal.loop-place-preserved
 loop-place-preserved c =
     let counted = c.loop-place.invariant in
     elim c.if-is_step_of.branch [
-      then-is_step_of w ↦ (
+      | then-is_step_of w ↦ (
         w.made-is
-        ∙ one-counted (is_step_of c.args.pid.0) c.args.entries.now c.loop-place.place c.entry.result c.loop-place.made (omega arith) c.entry.ensures
-        (sym c.is_step_of.ensures ∙ w.if-is_step_of.true) counted.0,
+            ∙ one-counted (is_step_of c.args.pid.0) c.args.entries.now c.loop-place.place c.entry.result c.loop-place.made (omega arith) c.entry.ensures
+            (sym c.is_step_of.ensures ∙ w.if-is_step_of.true) counted.0,
         omega (arith, w.made-is, counted.1),
       )
-    | else-is_step_of w ↦ (
+      | else-is_step_of w ↦ (
         w.made-is
-        ∙ none-counted (is_step_of c.args.pid.0) c.args.entries.now c.loop-place.place c.entry.result c.loop-place.made (omega arith) c.entry.ensures
-        (sym c.is_step_of.ensures ∙ w.if-is_step_of.false) counted.0,
+            ∙ none-counted (is_step_of c.args.pid.0) c.args.entries.now c.loop-place.place c.entry.result c.loop-place.made (omega arith) c.entry.ensures
+            (sym c.is_step_of.ensures ∙ w.if-is_step_of.false) counted.0,
         omega (arith, w.made-is, counted.1),
       )
     ]

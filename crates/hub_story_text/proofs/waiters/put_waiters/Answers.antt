@@ -10,12 +10,12 @@ pub returns : goal.returns
 returns c =
     let out = c.args.out.now.items in
     let heading = c.args.heading.now in
-    let left = left_words c.args.moves.now.left.items in
+    let left = left_words c.args.moves.now.receivers.left.items in
     let said = one-more out c.extend_from_slice-2.new.self.items c.put_left.new.out.items heading left c.in_ok-extend_from_slice.ensures.items
     (rw c.deref.ensures.value at c.in_ok-put_left.ensures) in
     on-ok c.put_calls.result
     (λ is. one-more out c.put_left.new.out.items c.put_calls.new.out.items (heading ++ left)
     (flat_map (waiter_words c.args.entries.now (known_at c.args.moves.now)) c.args.waiters.now) said is
-    ∙ ap (λ l. out ++ l) (sym (not-empty c.args.nobody.now heading c.args.entries.now _ c.args.moves.now.left.items c.args.waiters.now
+    ∙ ap (λ l. out ++ l) (sym (not-empty c.args.nobody.now heading c.args.entries.now _ c.args.moves.now.receivers.left.items c.args.waiters.now
     (λ is. search (rules, is)))))
     c.put_calls.ensures

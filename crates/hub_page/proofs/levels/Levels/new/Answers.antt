@@ -1,4 +1,4 @@
-use Rattle.hub_story_text.specs.declared.last_moves.TheConstants.{PORT_NUMBERS}
+use Rattle.hub_story.specs.declared.by_port.TheConstants.{PORT_NUMBERS}
 use Rattle.hub_page.proofs.Counted.{none-yet}
 use Rattle.hub_page.proofs.levels.Levels.new.Goals as goal
 

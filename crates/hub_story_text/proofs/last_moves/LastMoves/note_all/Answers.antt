@@ -16,7 +16,6 @@ loop-told-preserved c =
           (append_assoc before _ _ ∙ ap (λ (t : Told). before ++ (take i told ++ t ∷ [])) here.is
           ∙ ap (λ l. before ++ l) (sym (taken-next told i here.result c.loop-told-test.true)))
           (last-more c.args.entries.now _ _ c.loop-told.self c.note.new.self (c.loop-told.invariant.last before was) c.in_ok-note.ensures.next
-          c.in_ok-note.ensures.receivers
-          c.in_ok-note.ensures.left);
+          (c.in_ok-note.ensures.receivers (before ++ take i told)));
       whole = c.note.ensures.whole;
     }

@@ -1,0 +1,125 @@
+//! Who received from each port, and who has left.
+
+ghost use Rattle.std.specs.Prelude.{◌≡◌, ◌+◌, ◌∷◌, ◌++◌, ℕ, Bool, List, [], filter, IfOk, OnOk};
+ghost use Rattle.std.specs.List.{list_all, list_any};
+ghost use Rattle.hub_base.specs.declared.value.Port.{Port as PortNumber};
+ghost use Rattle.hub_base.specs.Entry.{Entry};
+ghost use Rattle.hub_story.specs.declared.told.Told.{Told as Event};
+ghost use Rattle.hub_story.specs.Leavers.{leaves};
+ghost use Rattle.hub_story.specs.Levels.{told_by};
+ghost use Rattle.hub_story.specs.OfPorts.{things_on};
+ghost use Rattle.hub_story.specs.Outside.{is_told_to};
+ghost use Rattle.hub_story.specs.Receivers.{AreReceivers, are_gone, got_there, receivers};
+
+use crate::Told;
+use crate::by_port::ByPort;
+use crate::exits::leaves;
+use crate::outside::any_told_to;
+use crate::passing::got_port;
+use hub_base::{Port, What};
+use hub_core::ShortEntries;
+use std::alloc::{AllocError, Global};
+
+/// Who received from each port, and who has left.
+#[derive(Drop)]
+pub struct Receivers {
+    /// Who received values from each port, each process once.
+    pub pids: ByPort<u8>,
+    /// The exits that were done, in order.
+    pub left: Vec<Told>,
+}
+
+/// From which port a value is told to have been received.
+fn port_of(entries: &ShortEntries, told: &Told) -> Option<Port>
+    ensures { (p : PortNumber) → receivers entries.now (told.now ∷ []) p ≡ got_there p result told.now.event.pid.0 }
+{
+    let What::Fired { case, outcome } = told.event.what else {
+        return None;
+    };
+    got_port(entries.case_at(told.asked as usize, case)?, outcome)
+}
+
+/// Takes in that the process received from this port, if there is one.
+fn note_receiver(pids: &mut ByPort<u8>, port: Option<Port>, pid: u8) -> Result<(), AllocError>
+    ensures { OnOk result ((p : PortNumber) (test : ℕ → Bool) →
+        list_all test (things_on pids.new p) ≡ list_all test (things_on pids.old p ++ got_there p port pid)) }
+{
+    let Some(port) = port else {
+        return Ok(());
+    };
+    if pids.on(port).contains(&pid) {
+        return Ok(());
+    }
+    pids.push(port, pid)
+}
+
+/// Takes in who leaves by the next event, if anybody does.
+fn note_leaver(left: &mut Vec<Told>, entries: &ShortEntries, told: &Told) -> Result<(), AllocError>
+    ensures { OnOk result (left.new.items ≡ left.old.items ++ filter (leaves entries.now) (told.now ∷ [])) }
+{
+    if leaves(entries, told) {
+        left.push(*told)?;
+    }
+    Ok(())
+}
+
+/// Whether all these processes have left.
+fn have_left(left: &[Told], pids: &[u8]) -> bool
+    ensures { result ≡ list_all (λ n. list_any (is_told_to n) left.now) pids.now }
+{
+    pids.iter().all(|pid| any_told_to(*pid, left))
+}
+
+impl Receivers {
+    /// Nobody received, and nobody has left.
+    pub fn new(alloc: Global) -> Result<Receivers, AllocError>
+        ensures { (es : List Entry) → IfOk result (AreReceivers es []) }
+    {
+        Ok(Receivers {
+            pids: ByPort::new(alloc)?,
+            left: Vec::new(alloc),
+        })
+    }
+
+    /// Takes in the next event, by which a value was received from this port, if there is one.
+    pub fn note(
+        &mut self,
+        entries: &ShortEntries,
+        told: &Told,
+        port: Option<Port>,
+    ) -> Result<(), AllocError>
+        requires { (p : PortNumber) → receivers entries.now (told.now ∷ []) p ≡ got_there p port told.now.event.pid.0 }
+        ensures { OnOk result ((before : List Event) → AreReceivers entries.now before self.old
+            → AreReceivers entries.now (before ++ told.now ∷ []) self.new) }
+    {
+        note_receiver(&mut self.pids, port, told.event.pid.0)?;
+        note_leaver(&mut self.left, entries, told)?;
+        Ok(())
+    }
+
+    /// Those by this step, of all that is told.
+    pub fn until(
+        alloc: Global,
+        entries: &ShortEntries,
+        told: &[Told],
+        step: u32,
+    ) -> Result<Receivers, AllocError>
+        ensures { IfOk result (AreReceivers entries.now (told_by (step + 1) told.now)) }
+    {
+        let mut noted = Receivers::new(alloc)?;
+        for told in told {
+            if told.by <= step {
+                noted.note(entries, told, port_of(entries, told))?;
+            }
+        }
+        Ok(noted)
+    }
+
+    /// Whether somebody received from the port, and all who did have left.
+    pub fn are_gone(&self, port: Port) -> bool
+        ensures { result ≡ are_gone self.now.left.items (things_on self.now.pids port) }
+    {
+        let pids = self.pids.on(port);
+        !pids.is_empty() && have_left(&self.left, pids)
+    }
+}

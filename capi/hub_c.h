@@ -41,14 +41,14 @@ struct followed {
 };
 
 /* What a step of the journal that a hub follows is. A call of one case without a default is a send or a receive, whatever its choice word. */
-enum { STEP_MAKE = 1, STEP_SEND, STEP_RECV, STEP_SELECT, STEP_SELECT_DEFAULT, STEP_CLOSE, STEP_EXIT, STEP_CANCEL };
+enum { STEP_MAKE = 1, STEP_SEND, STEP_RECV, STEP_SELECT, STEP_SELECT_DEFAULT, STEP_CLOSE, STEP_EXIT, STEP_CANCEL, STEP_START, STEP_REOPEN };
 
 /* A process's next step of that journal. All is 0 if there is none. */
 struct next {
     uint32_t number; /* its number in the journal, from 1 */
     uint8_t what;
-    uint8_t other; /* whom a cancel cancels; else 0 */
-    uint16_t port; /* of a send, a receive or a close; else 0 */
+    uint8_t other; /* whom a cancel cancels, or a start starts; else 0 */
+    uint16_t port; /* of a send, a receive, a close or a reopen; else 0 */
 };
 
 /* Reads a piece of a text: of the journal, of the chapter before the present one, of the one that waits, of the journal that is

@@ -4,7 +4,7 @@
     check_changing.py [ROOT]
 
 A row is | crate | files | why |, with files of that crate's folder, without their endings. Each has to be there. And the first table, of a
-further step, has to name every file that names `Cancel`, the step that came last: but for crates of tests, and for the answers of single
+further step, has to name every file that names `Reopen`, the step that came last: but for crates of tests, and for the answers of single
 functions, in folders of proofs/. Tells each file that is not there or not named. The status is 1 where any is told.
 """
 import glob
@@ -17,7 +17,7 @@ CRATES = os.path.join(ROOT, 'crates')
 ROW = re.compile(r'^(?:\| )?`(\w+)`(?: \*)? \| (.*?) \|', re.M)
 TICKED = re.compile(r'`([^`]+)`')
 TEST_CRATES = ('hub_live_tests', 'hub_tests', 'hub_trials', 'hub_uses')
-STEP = re.compile(r'\bCancel\b')
+STEP = re.compile(r'\bReopen\b')
 
 
 def named(text):
@@ -49,7 +49,7 @@ def main():
         page = file.read()
     first = re.search(r'^## A further step\n(.*?)^## ', page, re.M | re.S).group(1)
     found = ['%s is not there' % name for name in sorted(named(page)) if not is_there(name)]
-    found += ['%s names Cancel, and is in no row' % name for name in files_of_step() if name not in named(first)]
+    found += ['%s names Reopen, and is in no row' % name for name in files_of_step() if name not in named(first)]
     print(''.join('CHANGING: %s\n' % line for line in found), end='')
     sys.exit(1 if found else 0)
 

@@ -12,8 +12,9 @@ import sys
 
 VALUE = '(?:[0-9]+|#(?:[0-9a-f]{2})*)'
 LINES = [re.compile(it) for it in (
-    'chanhub journal [12]', 'procs [0-9]+',
-    f'[0-9]+ (?:make [0-9]+|send [0-9]+ {VALUE}|recv [0-9]+|select [0-9]+(?: s[0-9]+:{VALUE}| r[0-9]+)*(?: default)?|close [0-9]+|exit|cancel [0-9]+)')]
+    'chanhub journal [123]', 'procs [0-9]+',
+    f'[0-9]+ (?:make [0-9]+|send [0-9]+ {VALUE}|recv [0-9]+|select [0-9]+(?: s[0-9]+:{VALUE}| r[0-9]+)*(?: default)?|close [0-9]+|exit|cancel [0-9]+'
+    '|start [0-9]+|reopen [0-9]+ [0-9]+)')]
 
 
 def end_with(text):
@@ -139,6 +140,18 @@ class Hub:
             if step > len(self.ports):
                 return 5
             return 8 if step == 0 else 9 if self.channel(step)['closed'] else None
+        if word == 'start':
+            return None if step in self.gone else 17
+        if word == 'reopen':
+            port, cap = step
+            if port > len(self.ports):
+                return 5
+            if cap > 1024:
+                return 6
+            if port == 0:
+                return 8
+            channel = self.channel(port)
+            return None if channel['closed'] and not channel['buffer'] else 16
         return None
 
     def refusal(self, pid):
@@ -163,6 +176,12 @@ class Hub:
             self.end(step)
             self.tell(pid, 'done')
             self.tell(step, 'cancelled')
+        elif word == 'start':
+            self.gone.remove(step)
+            self.tell(pid, 'done')
+        elif word == 'reopen':
+            self.channel(step[0]).update(cap=step[1], closed=False)
+            self.tell(pid, 'done')
         else:
             self.gone.add(pid)
             self.tell(pid, 'done')
@@ -187,8 +206,10 @@ def case(text):
 
 def step(fields):
     word = fields[0]
-    if word in ('make', 'close', 'cancel'):
+    if word in ('make', 'close', 'cancel', 'start'):
         return word, int(fields[1])
+    if word == 'reopen':
+        return word, (int(fields[1]), int(fields[2]))
     if word == 'send':
         return 'call', ([('s', int(fields[1]), value(fields[2]))], False, 0)
     if word == 'recv':

@@ -193,11 +193,13 @@ count $? "a file that is not there"
 "$root/tools/seeds.sh" "$root/examples/scenarios/seeds" 6 > "$work/told" && grep -q '^4 of 6, first with seed 0, status 0:$' "$work/told"
 count $? "outcomes by seed"
 
-"$root/tools/random_journal.py" 1 "$random_journals" "$work"
-for seed in $(seq "$random_journals"); do
-    "$root/tools/model.py" < "$work/journal_$seed" > "$work/wanted"
-    [ -s "$work/wanted" ] && replays "$work/journal_$seed" "$work/wanted"
-    count $? "random journal of seed $seed"
+for third in '' --third; do
+    "$root/tools/random_journal.py" $third 1 "$random_journals" "$work"
+    for seed in $(seq "$random_journals"); do
+        "$root/tools/model.py" < "$work/journal_$seed" > "$work/wanted"
+        [ -s "$work/wanted" ] && replays "$work/journal_$seed" "$work/wanted"
+        count $? "random journal of seed $seed $third"
+    done
 done
 
 "$root/tools/cuts.py" "$program" "$tool" > "$work/cuts" 2>&1

@@ -1,14 +1,14 @@
 #!/usr/bin/env python3
 """Random journals, each the same for its seed wherever it is made.
 
-    random_journal.py SEED [LINES]           prints one
-    random_journal.py FIRST LAST FOLDER      writes FOLDER/journal_SEED for each seed from FIRST to LAST
+    random_journal.py [--third] SEED [LINES]           prints one
+    random_journal.py [--third] FIRST LAST FOLDER      writes FOLDER/journal_SEED for each seed from FIRST to LAST
 
-Each is well formed, of the second edition where its seed is even, and asks for all that a hub can answer: every
-word, selects of 0 to 9 cases, in the second edition to 16, with and without a default, choice words from 0 to the
-greatest, closes, exits, in the second edition cancels and values of 0 to 32 bytes, port 0, ports that are not made,
-capacities that are too large, processes that are busy, gone or unknown. LINES counts the entries; where it is not said
-there are 60 to 300.
+Each is well formed, of the second edition where its seed is even, after --third of the third, and asks for all that a
+hub can answer: every word, selects of 0 to 9 cases, but for the first edition to 16, with and without a default, choice
+words from 0 to the greatest, closes, exits, but for the first edition cancels and values of 0 to 32 bytes, in the third
+starts and reopens, port 0, ports that are not made, capacities that are too large, processes that are busy, gone or
+unknown. LINES counts the entries; where it is not said there are 60 to 300.
 """
 import os
 import random
@@ -43,18 +43,18 @@ class Numbers:
 class Journal:
     """The entries so far, and what the next ones are drawn from."""
 
-    def __init__(self, seed, entries):
+    def __init__(self, seed, entries, third=False):
         self.numbers = Numbers(seed)
-        self.edition = 1 if seed % 2 else 2
+        self.edition = 3 if third else 1 if seed % 2 else 2
         self.entries = entries or 60 + self.numbers.below(241)
         self.procs = self.numbers.among([1, 2, 2, 3, 3, 4, 5, 8, 16, 64])
         self.capacities = self.numbers.among([[0], [0, 1], [0, 1, 2, 3], [1, 2], [0, 4, 1024]])
         # a few journals make more ports than there can be
         self.first_ports = 62 + self.numbers.below(8) if self.numbers.one_in(20) else 1 + self.numbers.below(6)
-        # so many processes exit, early or late
-        self.exits_left = min(self.numbers.below(self.procs + 1), self.numbers.below(self.procs + 1))
+        # so many processes exit, early or late; where they may come back many do
+        self.exits_left = self.entries if third else min(self.numbers.below(self.procs + 1), self.numbers.below(self.procs + 1))
         # of a hundred steps so many are closes; in most journals few are, so that ports stay open
-        self.closes = self.numbers.among([0, 1, 1, 5])
+        self.closes = self.numbers.among([1, 2, 3, 5] if third else [0, 1, 1, 5])
         # all communications stand on few ports, so that they meet
         self.ports = 1 + self.numbers.below(min(self.first_ports, 4))
         self.value = 0
@@ -74,9 +74,9 @@ class Journal:
         return 1 + self.numbers.below(self.ports)
 
     def next_value(self):
-        """The next number, now and then the greatest; in the second edition half of the values are bytes."""
+        """The next number, now and then the greatest; but for the first edition half of the values are bytes."""
         self.value += 1
-        if self.edition == 2 and self.numbers.one_in(2):
+        if self.edition > 1 and self.numbers.one_in(2):
             return self.bytes()
         return '%d' % (GREATEST['value'] if self.numbers.one_in(50) else self.value)
 
@@ -100,18 +100,29 @@ class Journal:
             word = 1
         return ' '.join(['select', str(word)] + cases + ['default'] * default)
 
-    def make(self):
+    def capacity(self):
         if self.numbers.one_in(10):
-            return 'make %d' % self.numbers.among([1024, 1025, GREATEST['capacity']])
-        return 'make %d' % self.numbers.among(self.capacities)
+            return self.numbers.among([1024, 1025, GREATEST['capacity']])
+        return self.numbers.among(self.capacities)
+
+    def make(self):
+        return 'make %d' % self.capacity()
+
+    def life(self):
+        """A process starts again, or a port opens again."""
+        if self.numbers.one_in(2):
+            return 'start %d' % self.process()
+        return 'reopen %d %d' % (self.port(), self.capacity())
 
     def step(self):
+        if self.edition == 3 and self.numbers.one_in(8):
+            return self.life()
         drawn = self.numbers.below(100)
         if drawn < self.closes:
             return 'close %d' % self.port()
         if drawn < 7:
             return self.make()
-        if self.edition == 2 and drawn < 10 and self.numbers.one_in(2):
+        if self.edition > 1 and drawn < 10 and self.numbers.one_in(2):
             return 'cancel %d' % self.process()
         if drawn < 10 and self.exits_left > 0:
             self.exits_left -= 1
@@ -131,13 +142,15 @@ class Journal:
 
 
 def main(words):
+    third = words[:1] == ['--third']
+    words = words[third:]
     if len(words) in (1, 2):
-        print(Journal(int(words[0]), int(words[1]) if len(words) == 2 else 0).text(), end='')
+        print(Journal(int(words[0]), int(words[1]) if len(words) == 2 else 0, third).text(), end='')
     elif len(words) == 3:
         os.makedirs(words[2], exist_ok=True)
         for seed in range(int(words[0]), int(words[1]) + 1):
             with open(os.path.join(words[2], 'journal_%d' % seed), 'w') as file:
-                file.write(Journal(seed, 0).text())
+                file.write(Journal(seed, 0, third).text())
     else:
         sys.exit(__doc__.strip())
 

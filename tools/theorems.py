@@ -28,7 +28,7 @@ def bytes_of(values):
 
 WORDS = {
     'true': True, 'false': False, '[]': [], 'Sent': 'sent', 'Closed': 'closed', 'Drained': 'drained',
-    'procs': lambda n: (1, n), 'procs_two': lambda n: (2, n), 'port': lambda p: p, 'value_of': lambda v: v, 'bytes_of': bytes_of,
+    'procs': lambda n: (1, n), 'procs_two': lambda n: (2, n), 'procs_three': lambda n: (3, n), 'port': lambda p: p, 'value_of': lambda v: v, 'bytes_of': bytes_of,
     's': lambda p: lambda v: 's%d:%d' % (p, v), 'sb': lambda p: lambda v: 's%d:%s' % (p, bytes_of(v)), 'r': lambda p: 'r%d' % p,
     'Send': lambda p: lambda v: 's%d:%s' % (p, v),
     'make': lambda pid: lambda cap: '%d make %d' % (pid, cap),
@@ -38,6 +38,8 @@ WORDS = {
     'close': lambda pid: lambda p: '%d close %d' % (pid, p),
     'exit': lambda pid: '%d exit' % pid,
     'cancel': lambda pid: lambda other: '%d cancel %d' % (pid, other),
+    'start': lambda pid: lambda other: '%d start %d' % (pid, other),
+    'reopen': lambda pid: lambda p: lambda cap: '%d reopen %d %d' % (pid, p, cap),
     'made': lambda pid: lambda p: '%d made %d' % (pid, p),
     'case': lambda pid: lambda index: lambda outcome: '%d case %d %s' % (pid, index, outcome),
     'got': lambda v: 'got %s' % v, 'Got': lambda v: 'got %s' % v,

@@ -2,7 +2,7 @@
 use Rattle.std.specs.Prelude.{ℕ, List, codes}
 use Rattle.hub_base.specs.declared.fault.Fault.{Fault}
 use Rattle.hub_base.specs.declared.fault.Fault.TheVariants.{NoProcess, Gone, Busy, TooManyCases, NoPort, BadCap}
-use Rattle.hub_base.specs.declared.fault.Fault.TheVariants.{TooManyPorts, NilClose, AlreadyClosed, JournalFull, NoMemory, NotParked}
+use Rattle.hub_base.specs.declared.fault.Fault.TheVariants.{TooManyPorts, NilClose, AlreadyClosed, JournalFull, NoMemory, NotParked, InUse, NotGone}
 use Rattle.hub_base.specs.declared.read_fault.Kind.{Kind}
 use Rattle.hub_base.specs.declared.read_fault.Kind.TheVariants as kind
 
@@ -20,6 +20,8 @@ fault_number AlreadyClosed = 9
 fault_number JournalFull = 10
 fault_number NoMemory = 11
 fault_number NotParked = 12
+fault_number InUse = 16
+fault_number NotGone = 17
 
 -- why a step had no effect, in words
 abbrev pub fault_text : Fault → List ℕ
@@ -35,6 +37,8 @@ fault_text AlreadyClosed = codes "close of a closed port"
 fault_text JournalFull = codes "the journal is full"
 fault_text NoMemory = codes "out of memory"
 fault_text NotParked = codes "no open call"
+fault_text InUse = codes "the port is in use"
+fault_text NotGone = codes "the process has not exited"
 
 -- the number of a kind, and what is wrong with a journal's line, in two words
 abbrev pub kind_row : Kind → ℕ × List ℕ

@@ -4,9 +4,9 @@ use Rattle.std.specs.List.{list_all}
 use Rattle.hub_base.specs.declared.case.Case.{Case}
 use Rattle.hub_base.specs.declared.case.Case.TheVariants.{Send, Recv}
 use Rattle.hub_base.specs.Entry.{Entry, Step}
-use Rattle.hub_base.specs.declared.entry.Step.TheVariants.{Make, Call, Close, Exit, Cancel}
+use Rattle.hub_base.specs.declared.entry.Step.TheVariants.{Make, Call, Close, Exit, Cancel, Start, Reopen}
 use Rattle.hub_base.specs.declared.head.Edition.{Edition}
-use Rattle.hub_base.specs.declared.head.Edition.TheVariants.{One, Two}
+use Rattle.hub_base.specs.declared.head.Edition.TheVariants.{One, Two, Three}
 use Rattle.hub_base.specs.declared.head.Head.{Head}
 use Rattle.hub_base.specs.declared.limits.TheConstants.{CASE_PLACES, MOST_CASES, MOST_PROCS}
 use Rattle.hub_base.specs.declared.value.Value.{Value}
@@ -26,16 +26,25 @@ head_of edition procs = record { edition = edition; procs = procs }
 abbrev pub most_cases : Edition → ℕ
 most_cases One = MOST_CASES
 most_cases Two = CASE_PLACES
+most_cases Three = CASE_PLACES
 
 -- whether a process may cancel the open call of another
 abbrev pub has_cancel : Edition → Bool
 has_cancel One = false
 has_cancel Two = true
+has_cancel Three = true
+
+-- whether a process that has exited may be started again, and a port that is closed and drained opened again
+abbrev pub has_lives : Edition → Bool
+has_lives One = false
+has_lives Two = false
+has_lives Three = true
 
 -- whether a value may be bytes
 abbrev pub has_bytes : Edition → Bool
 has_bytes One = false
 has_bytes Two = true
+has_bytes Three = true
 
 -- a journal of this edition can have a value that says this
 abbrev pub has_content : Edition → Content → Bool
@@ -58,6 +67,8 @@ is_of edition (Call cases default word) = list_all (has_case edition) cases.item
 is_of edition (Close p) = true
 is_of edition Exit = true
 is_of edition (Cancel q) = has_cancel edition
+is_of edition (Start q) = has_lives edition
+is_of edition (Reopen p cap) = has_lives edition
 
 -- and so is each of these entries' steps
 abbrev pub AreOf : Edition → List Entry → Type 0

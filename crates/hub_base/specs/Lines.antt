@@ -11,9 +11,9 @@ use Rattle.hex.specs.Hex.{decode_of}
 use Rattle.hub_base.specs.declared.case.Case.{Case}
 use Rattle.hub_base.specs.declared.case.Case.TheVariants.{Send, Recv}
 use Rattle.hub_base.specs.Entry.{Entry, Step}
-use Rattle.hub_base.specs.declared.entry.Step.TheVariants.{Make, Call, Close, Exit, Cancel}
+use Rattle.hub_base.specs.declared.entry.Step.TheVariants.{Make, Call, Close, Exit, Cancel, Start, Reopen}
 use Rattle.hub_base.specs.declared.head.Edition.{Edition}
-use Rattle.hub_base.specs.Head.{has_bytes, has_cancel}
+use Rattle.hub_base.specs.Head.{has_bytes, has_cancel, has_lives}
 use Rattle.hub_base.specs.declared.value.Value.{Value}
 use Rattle.hub_base.specs.Content.{Content}
 use Rattle.hub_base.specs.Value.{saying, value_field}
@@ -52,6 +52,8 @@ step_fields (Call cases default word) = call_fields cases.items default word
 step_fields (Close p) = codes "close" ∷ decimal p.0 ∷ []
 step_fields Exit = codes "exit" ∷ []
 step_fields (Cancel q) = codes "cancel" ∷ decimal q.0 ∷ []
+step_fields (Start q) = codes "start" ∷ decimal q.0 ∷ []
+step_fields (Reopen p cap) = codes "reopen" ∷ decimal p.0 ∷ decimal cap ∷ []
 
 -- the fields with single spaces between them, and a newline
 abbrev pub line : Entry → List ℕ
@@ -251,12 +253,24 @@ read_exit pid other = Err BadStep
 abbrev pub read_cancel : List ℕ → List (List ℕ) → Result Entry Kind
 read_cancel = read_one GREATEST_PID (λ q. Cancel (record { 0 = q }))
 
+-- `P start Q`
+abbrev pub read_start : List ℕ → List (List ℕ) → Result Entry Kind
+read_start = read_one GREATEST_PID (λ q. Start (record { 0 = q }))
+
+-- `P reopen PORT C`
+abbrev pub read_reopen : List ℕ → List (List ℕ) → Result Entry Kind
+read_reopen pid (p ∷ c ∷ []) =
+    numeral GREATEST_PID pid >>= λ pid. numeral GREATEST_PORT p >>= λ p. numeral GREATEST_CAP c >>= λ cap.
+    Ok (by pid (Reopen (record { 0 = p }) cap))
+read_reopen pid other = Err BadStep
+
 -- `P select W CASE.. [default]`
 abbrev pub read_choice : Edition → List ℕ → List (List ℕ) → Result Entry Kind
 read_choice edition pid [] = Err BadStep
 read_choice edition pid (word ∷ fields) = read_select edition pid word (ends_default fields)
 
--- the second field says which step it is; a journal of the first edition has no cancel, and no value that is bytes
+-- the second field says which step it is; a journal of the first edition has no cancel, and no value that is bytes, and only
+-- one of the third has a start or a reopen
 abbrev pub read_step : Edition → List ℕ → List ℕ → List (List ℕ) → Result Entry Kind
 read_step edition pid word rest =
     if same_text word (codes "make") then read_make pid rest
@@ -266,6 +280,8 @@ read_step edition pid word rest =
     else if same_text word (codes "close") then read_close pid rest
     else if same_text word (codes "exit") then read_exit pid rest
     else if has_cancel edition && same_text word (codes "cancel") then read_cancel pid rest
+    else if has_lives edition && same_text word (codes "start") then read_start pid rest
+    else if has_lives edition && same_text word (codes "reopen") then read_reopen pid rest
     else Err BadStep
 
 -- what the fields of a line say in a journal of this edition

@@ -5,7 +5,7 @@ use Rattle.std.specs.Prelude.{ℕ, Bool, false, List, [], ◌∷◌}
 use Rattle.hub_base.specs.declared.value.Port.{Port}
 use Rattle.hub_base.specs.declared.case.Case.{Case}
 use Rattle.hub_base.specs.declared.case.Case.TheVariants.{Send, Recv}
-use Rattle.hub_base.specs.declared.entry.Step.TheVariants.{Make, Close, Exit, Cancel}
+use Rattle.hub_base.specs.declared.entry.Step.TheVariants.{Make, Close, Exit, Cancel, Start, Reopen}
 use Rattle.hub_base.specs.Entry.{Entry}
 use Rattle.hub_base.specs.declared.event.Outcome.{Outcome}
 use Rattle.hub_base.specs.declared.event.Outcome.TheVariants.{Got}
@@ -27,6 +27,10 @@ procs n = head_of edition.One n
 -- the same of the second edition
 abbrev pub procs_two : ℕ → Head
 procs_two n = head_of edition.Two n
+
+-- and the third
+abbrev pub procs_three : ℕ → Head
+procs_three n = head_of edition.Three n
 
 -- ---- cases
 -- the port of this number
@@ -70,6 +74,14 @@ exit pid = by pid Exit
 abbrev pub cancel : ℕ → ℕ → Entry
 cancel pid q = by pid (Cancel (record { 0 = q }))
 
+-- starts another process again
+abbrev pub start : ℕ → ℕ → Entry
+start pid q = by pid (Start (record { 0 = q }))
+
+-- opens a port again, with this capacity
+abbrev pub reopen : ℕ → ℕ → ℕ → Entry
+reopen pid p cap = by pid (Reopen (port p) cap)
+
 -- ---- events; the process that is told comes first
 -- this process is told so
 abbrev pub told : ℕ → What → Event
@@ -91,7 +103,7 @@ got n = Got (value_of n)
 abbrev pub defaulted : ℕ → Event
 defaulted pid = told pid what.Default
 
--- the close, the exit or the cancel is done
+-- the close, the exit, the cancel, the start or the reopen is done
 abbrev pub done : ℕ → Event
 done pid = told pid what.Done
 

@@ -20,6 +20,7 @@ use Rattle.hub_base.specs.Lines.{line, pieces, read_fields, number, same_text}
 abbrev pub header : Edition → List ℕ
 header edition.One = codes "chanhub journal 1"
 header edition.Two = codes "chanhub journal 2"
+header edition.Three = codes "chanhub journal 3"
 
 -- the second line without its newline
 abbrev pub procs_line : ℕ → List ℕ
@@ -149,7 +150,8 @@ procs_from ed start (r ∷ rs) =
 abbrev pub edition_of : List ℕ → Option Edition
 edition_of bytes =
     if same_text bytes (header edition.One) then Some edition.One
-    else if same_text bytes (header edition.Two) then Some edition.Two else None
+    else if same_text bytes (header edition.Two) then Some edition.Two
+    else if same_text bytes (header edition.Three) then Some edition.Three else None
 
 -- the lines behind the first, where it says so
 abbrev pub edition_says : Option Edition → ℕ → List Row → Reading

@@ -8,4 +8,5 @@ pub mod Leaving
 pub mod Refusing
 pub mod Limits
 pub mod Cancelling
+pub mod Lives
 pub mod ByteValues

@@ -1,7 +1,7 @@
 -- What one step does to a hub, and what it tells: sends, receives and selects, close, make and
--- exit, cancel, the stall rule, the faults that are journaled, and why an entry is not admitted.
+-- exit, cancel, start and reopen, the stall rule, the faults that are journaled, and why an entry is not admitted.
 -- Go: "Send statements", "Receive operator", "Select statements", "Close". Which waiting call is
--- served and which ready case fires are this project's choice, and cancel is its own step.
+-- served and which ready case fires are this project's choice, and cancel, start and reopen are its own steps.
 use Rattle.std.specs.Prelude.{ℕ, ◌+◌, ◌%◌, ◌==◌, nat_le, nat_lt, Bool, true, false, not, ◌&&◌, ◌||◌, List, []}
 use Rattle.std.specs.Prelude.{◌∷◌, ◌++◌, length, filter, Option, None, Some, slice_get, if◌then◌else◌}
 use Rattle.std.specs.List.{list_any, list_all, filter_map, range_with_len}
@@ -12,7 +12,7 @@ use Rattle.hub_base.specs.declared.value.Value.{Value}
 use Rattle.hub_base.specs.declared.case.Case.{Case}
 use Rattle.hub_base.specs.declared.case.Case.TheVariants.{Send, Recv}
 use Rattle.hub_base.specs.Entry.{Entry, Step}
-use Rattle.hub_base.specs.declared.entry.Step.TheVariants.{Make, Call, Close, Exit, Cancel}
+use Rattle.hub_base.specs.declared.entry.Step.TheVariants.{Make, Call, Close, Exit, Cancel, Start, Reopen}
 use Rattle.hub_base.specs.declared.event.Outcome.{Outcome}
 use Rattle.hub_base.specs.declared.event.Outcome.TheVariants.{Sent, Got, Drained, Closed}
 use Rattle.hub_base.specs.declared.fault.Fault.{Fault}
@@ -180,6 +180,24 @@ cancels s pid q =
       events = tells pid what.Done ∷ tells q what.Cancelled ∷ [];
     }
 
+-- a start: that process, which had exited, may make steps again
+abbrev pub starts : State → Pid → Pid → Change
+starts s pid q =
+    record {
+      state = record s { gone = filter (λ g. not (g.0 == q.0)) s.gone };
+      events = tells pid what.Done ∷ [];
+    }
+
+-- a channel once it is open again, with this capacity; what was sent and received on it still counts
+abbrev pub reopened : ℕ → Channel → Channel
+reopened cap c = record { cap = cap; closed = false; sent = c.sent; received = c.received }
+
+-- a reopen: that port, which was closed and drained, is open again
+abbrev pub reopens : State → Pid → Port → ℕ → Option Channel → Change
+reopens s pid p cap None = record { state = s; events = [] }
+reopens s pid p cap (Some c) =
+    record { state = with_channel s p (reopened cap c); events = tells pid what.Done ∷ [] }
+
 -- what a step does that meets no fault, before the stall rule
 abbrev pub effect : State → Pid → Step → Change
 effect s pid (Make cap) = makes s pid cap
@@ -187,6 +205,8 @@ effect s pid (Call cases default word) = calls s pid cases.items default word
 effect s pid (Close p) = closes s pid p (channel_at s p)
 effect s pid Exit = exits s pid
 effect s pid (Cancel q) = cancels s pid q
+effect s pid (Start q) = starts s pid q
+effect s pid (Reopen p cap) = reopens s pid p cap (channel_at s p)
 
 -- this process has exited
 abbrev pub has_gone : State → ℕ → Bool
@@ -221,9 +241,14 @@ abbrev pub close_fault : Option Channel → Option Fault
 close_fault None = Some fault.NilClose
 close_fault (Some c) = if c.closed then Some fault.AlreadyClosed else None
 
+-- why a channel can't be opened again: it is open, or holds a value
+abbrev pub reopen_fault : Option Channel → Option Fault
+reopen_fault None = Some fault.NilClose
+reopen_fault (Some c) = if c.closed && nat_le (length c.sent) c.received then None else Some fault.InUse
+
 -- why an admitted step has no effect: too great a capacity, a port too many, more cases than the
 -- edition admits, a port that was not made, a close of the nil channel or of a closed one, a cancel
--- of a process that has no open call
+-- of a process that has no open call, a start of one that has not exited, a reopen of a port that is in use
 abbrev pub fault_of : State → Step → Option Fault
 fault_of s (Make cap) =
     if nat_lt MOST_CAP cap then Some fault.BadCap
@@ -234,6 +259,10 @@ fault_of s (Call cases default word) =
 fault_of s (Close p) = if is_unmade s p then Some fault.NoPort else close_fault (channel_at s p)
 fault_of s Exit = None
 fault_of s (Cancel q) = if is_waiting s q.0 then None else Some fault.NotParked
+fault_of s (Start q) = if has_gone s q.0 then None else Some fault.NotGone
+fault_of s (Reopen p cap) =
+    if is_unmade s p then Some fault.NoPort
+    else if nat_lt MOST_CAP cap then Some fault.BadCap else reopen_fault (channel_at s p)
 
 -- the fault, or else what the step does
 abbrev pub answers : State → Entry → Option Fault → Change

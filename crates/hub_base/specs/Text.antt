@@ -7,7 +7,7 @@ use Rattle.std.specs.List.{flat_map, AllByRecursion, join_with_byte}
 use Rattle.hub_base.specs.declared.case.Case.{Case}
 use Rattle.hub_base.specs.declared.case.Case.TheVariants.{Send, Recv}
 use Rattle.hub_base.specs.Entry.{Entry, Step}
-use Rattle.hub_base.specs.declared.entry.Step.TheVariants.{Make, Call, Close, Exit, Cancel}
+use Rattle.hub_base.specs.declared.entry.Step.TheVariants.{Make, Call, Close, Exit, Cancel, Start, Reopen}
 use Rattle.hub_base.specs.declared.head.Edition.{Edition}
 use Rattle.hub_base.specs.declared.head.Head.{Head}
 use Rattle.hub_base.specs.Value.{IsValue}
@@ -38,6 +38,8 @@ StepFits (Call cases default word) = CallFits cases.items word
 StepFits (Close p) = p.0 ≤ GREATEST_PORT
 StepFits Exit = 0 ≤ 0
 StepFits (Cancel q) = q.0 ≤ GREATEST_PID
+StepFits (Start q) = q.0 ≤ GREATEST_PID
+StepFits (Reopen p cap) = (p.0 ≤ GREATEST_PORT) × (cap ≤ GREATEST_CAP)
 
 -- and of an entry, in a journal of this edition
 pub record Fits (edition : Edition) (e : Entry) : Type 0 where

@@ -5,7 +5,7 @@ use Rattle.std.specs.List.{flat_map, range_with_len}
 use Rattle.hex.specs.Hex.{decode_pairs}
 use Rattle.hub_base.specs.declared.read_fault.Kind.{Kind}
 use Rattle.hub_base.specs.declared.read_fault.Kind.TheVariants.{BadHeader, BadProcs, BadStep, BadNumber, CutLine}
-use Rattle.hub_base.specs.Notation.{procs, procs_two, s, r, make, send, recv, select, close, cancel, exit}
+use Rattle.hub_base.specs.Notation.{procs, procs_two, procs_three, s, r, make, send, recv, select, close, cancel, exit, start, reopen}
 use Rattle.hub_base.specs.Reading.{read_text, Reads, Faulty}
 
 -- the text of these lines
@@ -69,6 +69,12 @@ pub cancel_is_read :
     ≡ Reads (procs_two 2) (cancel 255 255 ∷ cancel 0 1 ∷ [])
 cancel_is_read = refl
 
+-- a start and a reopen with the greatest numbers, in the third edition
+pub lives_are_read :
+    read_text (codes "chanhub journal 3\nprocs 2\n255 start 255\n0 reopen 65535 4294967295\n0 cancel 1\n")
+    ≡ Reads (procs_three 2) (start 255 255 ∷ reopen 0 65535 4294967295 ∷ cancel 0 1 ∷ [])
+lives_are_read = refl
+
 -- ---- malformed texts
 -- each of these texts is malformed first at this line, in this way
 abbrev AllFaulty : ℕ → Kind → List (List ℕ) → Type 0
@@ -80,9 +86,9 @@ pub cut_lines :
     × AllFaulty 3 CutLine (codes "chanhub journal 1\nprocs 1\n0 make 1" ∷ [])
 cut_lines = (refl, refl, refl)
 
--- no text at all, a third edition, and one with a digit more
+-- no text at all, a fourth edition, and one with a digit more
 pub bad_headers : AllFaulty 1 BadHeader (
-    [] ∷ codes "chanhub journal 3\nprocs 1\n" ∷ codes "chanhub journal 22\nprocs 1\n" ∷ [])
+    [] ∷ codes "chanhub journal 4\nprocs 1\n" ∷ codes "chanhub journal 22\nprocs 1\n" ∷ [])
 bad_headers = refl
 
 -- no second line, too many processes and none, a leading zero, and a carriage return
@@ -120,6 +126,23 @@ bad_steps = refl
 -- the first edition has no cancel, and in the second one names one process
 pub cancels_of_the_first_edition : AllFaulty 3 BadStep (with_line (codes "0 cancel 1") ∷ [])
 cancels_of_the_first_edition = refl
+
+-- the second has neither a start nor a reopen
+pub lives_of_the_second_edition :
+    AllFaulty 3 BadStep (with_line_two (codes "0 start 1") ∷ with_line_two (codes "0 reopen 1 1") ∷ [])
+lives_of_the_second_edition = refl
+
+pub bad_lives :
+    AllFaulty 3 BadStep (
+    codes "chanhub journal 3\nprocs 2\n0 start\n"
+    ∷ codes "chanhub journal 3\nprocs 2\n0 start 1 1\n"
+    ∷ codes "chanhub journal 3\nprocs 2\n0 reopen 1\n"
+    ∷ codes "chanhub journal 3\nprocs 2\n0 reopen 1 1 1\n" ∷ [])
+    × AllFaulty 3 BadNumber (
+    codes "chanhub journal 3\nprocs 2\n0 start 256\n"
+    ∷ codes "chanhub journal 3\nprocs 2\n0 reopen 65536 1\n"
+    ∷ codes "chanhub journal 3\nprocs 2\n0 reopen 1 4294967296\n" ∷ [])
+bad_lives = (refl, refl)
 
 pub bad_cancels :
     AllFaulty 3 BadStep (

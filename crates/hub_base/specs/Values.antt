@@ -10,7 +10,7 @@ use Rattle.hub_base.specs.declared.value.Value.{Value}
 use Rattle.hub_base.specs.declared.case.Case.{Case}
 use Rattle.hub_base.specs.declared.case.Case.TheVariants.{Send, Recv}
 use Rattle.hub_base.specs.Entry.{Entry, Step}
-use Rattle.hub_base.specs.declared.entry.Step.TheVariants.{Make, Call, Close, Exit, Cancel}
+use Rattle.hub_base.specs.declared.entry.Step.TheVariants.{Make, Call, Close, Exit, Cancel, Start, Reopen}
 use Rattle.hub_base.specs.declared.head.Head.{Head}
 use Rattle.hub_base.specs.declared.event.Outcome.{Outcome}
 use Rattle.hub_base.specs.declared.event.Outcome.TheVariants.{Sent, Got}
@@ -70,6 +70,8 @@ cases_or (Call cases default word) before = cases.items
 cases_or (Close p) before = before
 cases_or Exit before = before
 cases_or (Cancel q) before = before
+cases_or (Start q) before = before
+cases_or (Reopen p cap) before = before
 
 -- the cases of the entry at this place; none where it is no call
 abbrev pub cases_at : List Entry → ℕ → List Case

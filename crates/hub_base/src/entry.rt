@@ -26,9 +26,20 @@ pub enum Step<C = Cases> {
     Close(Port),
     /// Ends the process: no later step of it is admitted.
     Exit,
-    /// Ends the open call of this process with `What::Cancelled`. No value moves, and no port changes. Only a
-    /// journal of the second edition has it. Without an open call the answer is `Fault::NotParked`.
+    /// Ends the open call of this process with `What::Cancelled`. No value moves, and no port changes. No
+    /// journal of the first edition has it. Without an open call the answer is `Fault::NotParked`.
     Cancel(Pid),
+    /// Starts this process again, which has exited: it may make steps as at the opening. Only a journal of the
+    /// third edition has it. Where the process has not exited the answer is `Fault::NotGone`.
+    Start(Pid),
+    /// Opens this port again, which is closed and drained. What was sent and received on it still counts. Only a
+    /// journal of the third edition has it. Where the port is open or holds a value the answer is `Fault::InUse`.
+    Reopen {
+        /// The port.
+        port: Port,
+        /// Its capacity from then on. Above `MOST_CAP` the answer is `Fault::BadCap`.
+        cap: u32,
+    },
 }
 
 /// A step and the process that makes it.
@@ -81,7 +92,7 @@ impl Entry {
     }
 
     /// Whether a journal of this edition can have the entry: one of the first edition has no cancel, and no value that
-    /// is bytes.
+    /// is bytes, and only one of the third has a start or a reopen.
     pub fn fits(&self, edition: Edition) -> bool
         ensures is { result ≡ is_of edition self.now.step }
         ensures fits { IsTrue result → Fits edition self.now }
@@ -130,6 +141,15 @@ impl EntryRef<'_> {
                 let _pid = pid.0;
                 edition.has_cancel()
             }
+            Step::Start(pid) => {
+                let _pid = pid.0;
+                edition.has_lives()
+            }
+            Step::Reopen { port, cap } => {
+                let _port = port.0;
+                let _cap = *cap;
+                edition.has_lives()
+            }
         }
     }
 }
@@ -154,6 +174,11 @@ impl Step {
             Step::Close(port) => Step::Close(*port),
             Step::Exit => Step::Exit,
             Step::Cancel(pid) => Step::Cancel(*pid),
+            Step::Start(pid) => Step::Start(*pid),
+            Step::Reopen { port, cap } => Step::Reopen {
+                port: *port,
+                cap: *cap,
+            },
         }
     }
 }
@@ -180,6 +205,11 @@ impl<'a> StepRef<'a> {
             Step::Close(port) => Step::Close(*port),
             Step::Exit => Step::Exit,
             Step::Cancel(pid) => Step::Cancel(*pid),
+            Step::Start(pid) => Step::Start(*pid),
+            Step::Reopen { port, cap } => Step::Reopen {
+                port: *port,
+                cap: *cap,
+            },
         }
     }
 

@@ -5,8 +5,8 @@ ghost use Rattle.std.specs.Prelude.{◌≡◌};
 use crate::limits::{CASE_PLACES, MOST_CASES};
 use crate::{Case, Entry};
 
-/// The edition of a journal, and of the hub that writes it: which texts and which calls it admits. All else
-/// that a hub does is the same in both.
+/// The edition of a journal, and of the hub that writes it: which texts and which steps it admits. All else
+/// that a hub does is the same in all.
 #[derive(Clone, Copy, Debug, PartialEq, Eq)]
 pub enum Edition {
     /// A journal whose first line is `chanhub journal 1`. Each value is a number, and a call has at most `MOST_CASES`
@@ -15,12 +15,15 @@ pub enum Edition {
     /// A journal whose first line is `chanhub journal 2`. A value is a number or bytes, a call has at most
     /// `CASE_PLACES` cases, as many as an entry holds, and a process may cancel the open call of another.
     Two,
+    /// A journal whose first line is `chanhub journal 3`. It has all that the second has. A process that has exited may
+    /// be started again, and a port that is closed and drained may be opened again.
+    Three,
 }
 
 impl Edition {
     ghost use Rattle.std.specs.Prelude.{IsTrue};
     ghost use Rattle.std.specs.List.{AllByRecursion, list_all};
-    ghost use Rattle.hub_base.specs.Head.{most_cases, has_bytes, has_cancel, has_case, is_of};
+    ghost use Rattle.hub_base.specs.Head.{most_cases, has_bytes, has_cancel, has_lives, has_case, is_of};
     ghost use Rattle.hub_base.specs.Text.{CaseFits, Fits};
 
     /// The most cases that a call may have.
@@ -29,7 +32,7 @@ impl Edition {
     {
         match self {
             Edition::One => MOST_CASES,
-            Edition::Two => CASE_PLACES,
+            Edition::Two | Edition::Three => CASE_PLACES,
         }
     }
 
@@ -44,7 +47,14 @@ impl Edition {
     pub fn has_cancel(self) -> bool
         ensures { result ≡ has_cancel self }
     {
-        self == Edition::Two
+        !matches!(self, Edition::One)
+    }
+
+    /// Whether processes may be started and ports opened again.
+    pub fn has_lives(self) -> bool
+        ensures { result ≡ has_lives self }
+    {
+        self == Edition::Three
     }
 
     /// Whether a journal of this edition can have all of these cases. All are looked at: so where only the proof asks, what is

@@ -10,7 +10,7 @@ pub const MOST_PORTS: usize = 64;
 pub const MOST_CASES: usize = 8;
 
 /// The places that an entry has for cases: the most that a text may name, and the most that a call may have
-/// in the second edition. In the first, a call that names more than `MOST_CASES` is refused when it is made.
+/// from the second edition on. In the first, a call that names more than `MOST_CASES` is refused when it is made.
 pub const CASE_PLACES: usize = 16;
 
 /// The most bytes of a value.

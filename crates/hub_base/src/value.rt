@@ -6,8 +6,8 @@ ghost use Rattle.hub_base.specs.Content.{is_stored};
 use crate::Edition;
 use crate::limits::MOST_VALUE_BYTES;
 
-/// A value that a channel carries: a whole number of 64 bits, or 0 to `MOST_VALUE_BYTES` bytes. Only a journal of
-/// the second edition has values that are bytes.
+/// A value that a channel carries: a whole number of 64 bits, or 0 to `MOST_VALUE_BYTES` bytes. No journal of
+/// the first edition has values that are bytes.
 ///
 /// Only texts look inside it, and buffers, which keep numbers in less room. A hub moves values and never reads one, so
 /// nothing that is proved of a hub depends on what a value is.

@@ -45,6 +45,14 @@ fn is_same_step(step: &StepRef<'_>, other: &StepRef<'_>) -> bool
         (Step::Close(port), Step::Close(given)) => port.0 == given.0,
         (Step::Exit, Step::Exit) => true,
         (Step::Cancel(pid), Step::Cancel(given)) => pid.0 == given.0,
+        (Step::Start(pid), Step::Start(given)) => pid.0 == given.0,
+        (
+            Step::Reopen { port, cap },
+            Step::Reopen {
+                port: given,
+                cap: other,
+            },
+        ) => port.0 == given.0 && cap == other,
         _ => false,
     }
 }

@@ -1,7 +1,7 @@
 -- What a channel's buffer says of it: which tests of the rules read, and what each thing that a step does to it leaves.
 use Rattle.hub_laws.proofs.Prelude.{◌≡◌, Bool, true, false, List, [], ◌∷◌, ◌++◌, refl, ap, ◌∙◌, sym, None, ℕ, zero, suc, ◌+◌, ◌≤◌, ◌-◌, ◌==◌, cond}
 use Rattle.hub_laws.proofs.Prelude.{length, arith, add-one, map, nat_lt, drop, length-drop, length-map, slice_get, option_map, Port, Value, Case, Channel}
-use Rattle.hub_laws.proofs.Prelude.{Send, Recv, buffer_of, after_send, after_receive, shut, next_value, with_sent}
+use Rattle.hub_laws.proofs.Prelude.{Send, Recv, buffer_of, after_send, after_receive, shut, reopened, next_value, with_sent, nat_le, not}
 use Rattle.hub_laws.proofs.Deeds.{at}
 use Rattle.hub_chapters.specs.Alike.{afresh}
 
@@ -39,6 +39,17 @@ some_left n m = grind arith
 
 pub some-like : (c d : Channel) → Like c d → nat_lt c.received (length c.sent) ≡ nat_lt d.received (length d.sent)
 some-like c d l = some_left c.received (length c.sent) ∙ ap (λ n. nat_lt 0 n) (length-like c d l) ∙ sym (some_left d.received (length d.sent))
+
+drained_test : (n m : ℕ) → nat_le m n ≡ not (nat_lt 0 (m - n))
+drained_test n m = grind arith
+
+pub drained-like : (c d : Channel) → Like c d → nat_le (length c.sent) c.received ≡ nat_le (length d.sent) d.received
+drained-like c d l =
+    drained_test c.received (length c.sent) ∙ ap (λ n. not (nat_lt 0 n)) (length-like c d l) ∙ sym (drained_test d.received (length d.sent))
+
+-- after a reopen
+pub reopened-like : (cap : ℕ) (c d : Channel) → Like c d → Like (reopened cap c) (reopened cap d)
+reopened-like cap c d l = ap (λ (x : Channel). record { cap = cap; closed = false; sent = x.sent; received = 0 }) l
 
 -- after a receive
 drop_one : (n : ℕ) (xs : List Value) → drop (suc n) xs ≡ drop 1 (drop n xs)

@@ -1,7 +1,8 @@
 -- The entries of a checkpoint: how many are no exits, and that they are of the edition.
 use Rattle.hub_laws.proofs.Prelude.{◌≡◌, Bool, true, false, List, [], ◌∷◌, ◌++◌, refl, ℕ, ◌+◌, cond, suc, zero, length, arith, map, drop}
 use Rattle.hub_laws.proofs.Prelude.{AllByRecursion, all_snoc, all_append, and_parts}
-use Rattle.hub_laws.proofs.Prelude.{Entry, Step, Make, Call, Close, Exit, Cancel, Case, Edition, Head, Value, Channel, State, OpenCall, opening}
+use Rattle.hub_laws.proofs.Prelude.{Entry, Step, Make, Call, Close, Exit, Cancel, Start, Reopen, Case, Edition, Head, Value, Channel, State, OpenCall}
+use Rattle.hub_laws.proofs.Prelude.{opening}
 use Rattle.hub_laws.proofs.Prelude.{state, buffer_of, steps_of}
 use Rattle.std.specs.List.{list_all}
 use Rattle.hub_base.specs.Head.{AreOf, is_of, has_case, has_value}
@@ -63,6 +64,7 @@ values_kept edition = record {
   sent = λ p v c q h. all_snoc (λ w. has_value edition w ≡ true) c.sent v h q;
   received = λ c h. h;
   shuts = λ c h. h;
+  opens = λ cap c few h. h;
 }
 
 all_from : {A : Type 0} (f : A → Bool) (xs : List A) → list_all f xs ≡ true → AllByRecursion (λ x. f x ≡ true) xs
@@ -79,6 +81,8 @@ step_cases edition (Call cases default word) e = all_from (has_case edition) cas
 step_cases edition (Close p) e = tt
 step_cases edition Exit e = tt
 step_cases edition (Cancel q) e = tt
+step_cases edition (Start q) e = tt
+step_cases edition (Reopen p cap) e = tt
 
 steps_cases : (edition : Edition) (es : List Entry) → AreOf edition es → AllByRecursion (λ e. CasesHold (HasCase edition) e.step) es
 steps_cases edition [] a = tt

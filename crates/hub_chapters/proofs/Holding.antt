@@ -3,7 +3,8 @@
 use Rattle.hub_laws.proofs.Prelude.{◌≡◌, Bool, true, false, List, [], ◌∷◌, refl, sym, subst, Option, Some, None, ℕ, ◌≤◌, ◌%◌, ◌==◌, ◌-◌, cond}
 use Rattle.hub_laws.proofs.Prelude.{zero, suc, length, arith, not}
 use Rattle.hub_laws.proofs.Prelude.{filter, list_any, AllByRecursion, all_snoc, slice_get, slice_set}
-use Rattle.hub_laws.proofs.Prelude.{Entry, Step, Make, Call, Close, Exit, Cancel, Case, Send, Recv, Closed, Sent, Fault, Pid, Port, Value, Event}
+use Rattle.hub_laws.proofs.Prelude.{Entry, Step, Make, Call, Close, Exit, Cancel, Start, Reopen, reopens, reopened, Case, Send, Recv, Closed, Sent}
+use Rattle.hub_laws.proofs.Prelude.{Fault, Pid, Port, Value, Event}
 use Rattle.hub_laws.proofs.Prelude.{Channel, State, OpenCall, Change, Firing, Ending, MOST_CAP}
 use Rattle.hub_laws.proofs.Prelude.{channel_at, after_send, after_receive, shut, with_sent, next_value, without, is_on, is_recv_on, is_send_on}
 use Rattle.hub_laws.proofs.Prelude.{first_with, port_of, ready, can_proceed, fired}
@@ -23,6 +24,7 @@ pub record Kept (P : Channel → Type 0) (Q : Case → Type 0) : Type 0 where
   pub sent : (p : Port) (v : Value) (c : Channel) → Q (Send p v) → P c → P (after_send v c)
   pub received : (c : Channel) → P c → P (after_receive c)
   pub shuts : (c : Channel) → P c → P (shut c)
+  pub opens : (cap : ℕ) (c : Channel) → cap ≤ MOST_CAP → P c → P (reopened cap c)
 
 pub record Holds (P : Channel → Type 0) (Q : Case → Type 0) (s : State) : Type 0 where
   pub channels : AllByRecursion P s.channels
@@ -34,6 +36,8 @@ CasesHold Q (Make cap) = Unit
 CasesHold Q (Close p) = Unit
 CasesHold Q Exit = Unit
 CasesHold Q (Cancel q) = Unit
+CasesHold Q (Start q) = Unit
+CasesHold Q (Reopen p cap) = Unit
 
 -- in lists
 
@@ -135,6 +139,15 @@ closes-holds P Q k s pid p (Some c) is h =
     writes P Q s (filter off s.parked) p (shut c) h.channels (all_kept (λ (call : OpenCall). AllByRecursion Q call.cases) off s.parked h.calls)
     (k.shuts c (all_at P s p c h.channels (sym is)))
 
+reopens-holds : (P : Channel → Type 0) (Q : Case → Type 0) → Kept P Q → (s : State) (pid : Pid) (p : Port) (cap : ℕ) (o : Option Channel) →
+    o ≡ channel_at s p → cap ≤ MOST_CAP → Holds P Q s → Holds P Q (reopens s pid p cap o).state
+reopens-holds P Q k s pid p cap None is few h = h
+reopens-holds P Q k s pid p cap (Some c) is few h =
+    writes P Q s s.parked p (reopened cap c) h.channels h.calls (k.opens cap c few (all_at P s p c h.channels (sym is)))
+
+room_to_open : (s : State) (p : Port) (cap : ℕ) → fault_of s (Reopen p cap) ≡ None → cap ≤ MOST_CAP
+room_to_open s p cap h = grind arith
+
 room_for_cap : (s : State) (cap : ℕ) → fault_of s (Make cap) ≡ None → cap ≤ MOST_CAP
 room_for_cap s cap h = grind arith
 
@@ -149,6 +162,8 @@ effect-holds P Q k s pid (Call cases default word) fine h q =
 effect-holds P Q k s pid (Close p) fine h q = closes-holds P Q k s pid p (channel_at s p) refl h
 effect-holds P Q k s pid Exit fine h q = record { channels = h.channels; calls = h.calls }
 effect-holds P Q k s pid (Cancel o) fine h q = record { channels = h.channels; calls = less Q o s.parked h.calls }
+effect-holds P Q k s pid (Start o) fine h q = record { channels = h.channels; calls = h.calls }
+effect-holds P Q k s pid (Reopen p cap) fine h q = reopens-holds P Q k s pid p cap (channel_at s p) refl (room_to_open s p cap fine) h
 
 stalls-holds : (P : Channel → Type 0) (Q : Case → Type 0) (c : Change) (b : Bool) → Holds P Q c.state →
     Holds P Q (stalls_if b c).state

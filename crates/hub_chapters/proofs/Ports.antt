@@ -7,7 +7,7 @@ use Rattle.hub_laws.proofs.Prelude.{refusal, fault_of, close_fault, after_send, 
 use Rattle.hub_base.specs.Lines.{by, call}
 use Rattle.hub_base.specs.Head.{most_cases}
 use Rattle.hub_base.specs.State.{with_channel}
-use Rattle.hub_base.specs.declared.head.Edition.TheVariants.{One, Two}
+use Rattle.hub_base.specs.declared.head.Edition.TheVariants.{One, Two, Three}
 use Rattle.hub_base.specs.declared.fault.Fault.TheVariants as fault
 use Rattle.hub_laws.proofs.Deeds.{at, fresh}
 use Rattle.hub_laws.proofs.Does.{next_port}
@@ -53,6 +53,7 @@ write_last h cs c d n is =
 few_cases : (edition : Edition) → nat_lt (most_cases edition) 1 ≡ false
 few_cases One = refl
 few_cases Two = refl
+few_cases Three = refl
 
 is_made : (cs : List Channel) (c : Channel) (n : ℕ) → n ≡ length cs + 1 → nat_lt (length (cs ++ c ∷ [])) n ≡ false
 is_made cs c n is = let l = length-append cs (c ∷ []) in grind arith

@@ -3,7 +3,7 @@
 use Rattle.hub_laws.proofs.Prelude.{◌≡◌, Bool, true, false, List, [], ◌∷◌, refl, ◌∙◌, sym, Option, Some, None, ℕ, ◌+◌, ◌-◌, ◌≤◌, ◌<◌, ◌==◌}
 use Rattle.hub_laws.proofs.Prelude.{suc, length, arith}
 use Rattle.hub_laws.proofs.Prelude.{length-drop, AllByRecursion, slice_get}
-use Rattle.hub_laws.proofs.Prelude.{Entry, Step, Make, Call, Close, Exit, Cancel, Case, Fault, Head, Channel, State, Change, MOST_CAP}
+use Rattle.hub_laws.proofs.Prelude.{Entry, Step, Make, Call, Close, Exit, Cancel, Start, Reopen, Case, Fault, Head, Channel, State, Change, MOST_CAP}
 use Rattle.hub_laws.proofs.Prelude.{opening, state, state_after, moves, admits, turn, answers, effect, all_wait, fault_of, refusal, has_gone}
 use Rattle.hub_laws.proofs.Deeds.{at}
 use Rattle.hub_laws.proofs.Account.{procs-of}
@@ -62,7 +62,7 @@ abbrev Any : Case → Type 0
 Any k = Unit
 
 caps_kept : Kept CapFits Any
-caps_kept = record { made = λ cap few. few; sent = λ p v c q h. h; received = λ c h. h; shuts = λ c h. h }
+caps_kept = record { made = λ cap few. few; sent = λ p v c q h. h; received = λ c h. h; shuts = λ c h. h; opens = λ cap c few h. few }
 
 all_any : (cs : List Case) → AllByRecursion Any cs
 all_any [] = tt
@@ -74,6 +74,8 @@ any_step (Make cap) = tt
 any_step (Close p) = tt
 any_step Exit = tt
 any_step (Cancel q) = tt
+any_step (Start q) = tt
+any_step (Reopen p cap) = tt
 
 any_steps : (es : List Entry) → AllByRecursion (λ e. CasesHold Any e.step) es
 any_steps [] = tt

@@ -4,12 +4,13 @@ use Rattle.hub_laws.proofs.Prelude.{◌||◌, ◌&&◌, not, cond, ◌%◌, ◌-
 use Rattle.hub_laws.proofs.Prelude.{length, arith, map, nat_lt, nat_le, filter, filter_map, list_any, list_any-append, map-append, slice_get}
 use Rattle.hub_laws.proofs.Prelude.{slice_set, option_map, option_map_or, enumerate_from}
 use Rattle.hub_laws.proofs.Prelude.{Port, Value, Case, Send, Recv, Pid, Event, Closed, Sent, Fault, Head, Entry, Step, Make, Call, Close, Exit}
-use Rattle.hub_laws.proofs.Prelude.{Cancel, MOST_PORTS, MOST_CAP}
+use Rattle.hub_laws.proofs.Prelude.{Cancel, Start, Reopen, reopens, reopened, reopen_fault, MOST_PORTS, MOST_CAP}
+use Rattle.hub_laws.proofs.Gone.{any-but}
 use Rattle.hub_laws.proofs.Prelude.{Channel, State, OpenCall, Change, Firing, Ending, after_send, after_receive, shut, next_value, outcome_of}
 use Rattle.hub_laws.proofs.Prelude.{with_sent, tells, fired, without, port_of}
 use Rattle.hub_laws.proofs.Prelude.{first_with, is_recv_on, is_send_on, is_on, send_can, recv_can, can_proceed, ready, send_meets, send_fires}
 use Rattle.hub_laws.proofs.Prelude.{recv_takes, recv_meets, fires, proceeds, chooses, calls}
-use Rattle.hub_laws.proofs.Prelude.{closes, close_fault, effect, stalls, all_wait, has_gone, is_waiting, fault_of, answers, turn, refusal, admits}
+use Rattle.hub_laws.proofs.Prelude.{closes, close_fault, effect, stalls, all_wait, has_gone, fault_of, answers, turn, refusal, admits}
 use Rattle.hub_laws.proofs.Prelude.{moves, IsSound}
 use Rattle.std.proofs.lemmas.List.{map-set}
 use Rattle.std.specs.List.{list_all, range_with_len}
@@ -21,6 +22,7 @@ use Rattle.hub_base.specs.declared.fault.Fault.TheVariants as fault
 use Rattle.hub_laws.proofs.Deeds.{at}
 use Rattle.hub_chapters.specs.Alike.{afresh, Alike}
 use Rattle.hub_chapters.proofs.Buffers.{Like, closed-like, next-like, room-like, some-like, received-like, sent-like, with_sent-like, shut-like}
+use Rattle.hub_chapters.proofs.Buffers.{drained-like, reopened-like}
 use Rattle.hub_chapters.proofs.Buffers.{at-like, count-like}
 use Rattle.hub_chapters.proofs.Stalling.{stalls_if}
 
@@ -202,6 +204,19 @@ closes-like s k ds pid p (Some c) (Some d) t e = record {
 closes-like s k ds pid p None (Some d) t e = absurd (let x : ⊥ = cc in x)
 closes-like s k ds pid p (Some c) None t e = absurd (let x : ⊥ = cc in x)
 
+reopens-like : (s : State) (k : List Pid) (ds : List Channel) (pid : Pid) (p : Port) (cap : ℕ) (o u : Option Channel) → Twin s k ds →
+    option_map afresh o ≡ option_map afresh u →
+    SameChange (reopens s pid p cap o) (reopens (beside s k ds) pid p cap u)
+reopens-like s k ds pid p cap None None t e = record { events = refl; alike = twin-alike s k ds t }
+reopens-like s k ds pid p cap (Some c) (Some d) t e =
+    record { events = refl; alike = written-alike s k ds s.parked p (reopened cap c) (reopened cap d) t (reopened-like cap c d cc) }
+reopens-like s k ds pid p cap None (Some d) t e = absurd (let x : ⊥ = cc in x)
+reopens-like s k ds pid p cap (Some c) None t e = absurd (let x : ⊥ = cc in x)
+
+gone-less : (xs ys : List Pid) (r q : ℕ) → list_any (λ g. g.0 == q) xs ≡ list_any (λ g. g.0 == q) ys →
+    list_any (λ g. g.0 == q) (filter (λ g. not (g.0 == r)) xs) ≡ list_any (λ g. g.0 == q) (filter (λ g. not (g.0 == r)) ys)
+gone-less xs ys r q e = any-but q r xs ∙ ap (λ b. b && not (r == q)) e ∙ sym (any-but q r ys)
+
 gone-more : (xs ys : List Pid) (pid : Pid) (q : ℕ) → list_any (λ g. g.0 == q) xs ≡ list_any (λ g. g.0 == q) ys →
     list_any (λ g. g.0 == q) (xs ++ pid ∷ []) ≡ list_any (λ g. g.0 == q) (ys ++ pid ∷ [])
 gone-more xs ys pid q e = grind (arith, list_any-append)
@@ -225,6 +240,12 @@ effect-like s k ds pid Exit t = record {
   alike = record { head = refl; gone = λ q. gone-more s.gone k pid q (t.gone q); parked = refl; channels = t.channels };
 }
 effect-like s k ds pid (Cancel q) t = record { events = refl; alike = parked-alike s k ds (without q s.parked) t }
+effect-like s k ds pid (Start r) t = record {
+  events = refl;
+  alike = record { head = refl; gone = λ q. gone-less s.gone k r.0 q (t.gone q); parked = refl; channels = t.channels };
+}
+effect-like s k ds pid (Reopen p cap) t =
+    reopens-like s k ds pid p cap (at s.channels p) (at ds p) t (at-like s.channels ds p t.channels)
 
 -- The stall rule
 
@@ -260,6 +281,15 @@ close_fault-like (Some c) (Some d) e = ap (λ b. cond b (Some fault.AlreadyClose
 close_fault-like None (Some d) e = absurd (let x : ⊥ = cc in x)
 close_fault-like (Some c) None e = absurd (let x : ⊥ = cc in x)
 
+reopen_fault-like : (o u : Option Channel) → option_map afresh o ≡ option_map afresh u → reopen_fault o ≡ reopen_fault u
+reopen_fault-like None None e = refl
+reopen_fault-like (Some c) (Some d) e =
+    let l : Like c d = cc in
+    ap (λ b. cond (b && nat_le (length c.sent) c.received) None (Some fault.InUse)) (closed-like c d l)
+    ∙ ap (λ b. cond (d.closed && b) None (Some fault.InUse)) (drained-like c d l)
+reopen_fault-like None (Some d) e = absurd (let x : ⊥ = cc in x)
+reopen_fault-like (Some c) None e = absurd (let x : ⊥ = cc in x)
+
 fault-like : (s : State) (k : List Pid) (ds : List Channel) (step : Step) → Twin s k ds → fault_of s step ≡ fault_of (beside s k ds) step
 fault-like s k ds (Make cap) t =
     ap (λ n. cond (nat_lt MOST_CAP cap) (Some fault.BadCap) (cond (nat_le MOST_PORTS n) (Some fault.TooManyPorts) None)) (count-like s.channels ds t.channels)
@@ -272,6 +302,12 @@ fault-like s k ds (Close p) t =
     (close_fault-like (at s.channels p) (at ds p) (at-like s.channels ds p t.channels))
 fault-like s k ds Exit t = refl
 fault-like s k ds (Cancel q) t = refl
+fault-like s k ds (Start q) t = ap (λ b. cond b None (Some fault.NotGone)) (t.gone q.0)
+fault-like s k ds (Reopen p cap) t =
+    ap (λ n. cond (nat_lt n p.0) (Some fault.NoPort) (cond (nat_lt MOST_CAP cap) (Some fault.BadCap) (reopen_fault (at s.channels p))))
+    (count-like s.channels ds t.channels)
+    ∙ ap (λ (o : Option Fault). cond (nat_lt (length ds) p.0) (Some fault.NoPort) (cond (nat_lt MOST_CAP cap) (Some fault.BadCap) o))
+    (reopen_fault-like (at s.channels p) (at ds p) (at-like s.channels ds p t.channels))
 
 -- An entry
 

@@ -2,7 +2,8 @@
 use Rattle.hub_laws.proofs.Prelude.{◌≡◌, Bool, true, false, List, [], ◌∷◌, ◌++◌, refl, ap, sym, Option, Some, None, ℕ, ◌+◌, ◌-◌, ◌≤◌, ◌%◌, ◌==◌, cond}
 use Rattle.hub_laws.proofs.Prelude.{zero, suc, length, arith, not}
 use Rattle.hub_laws.proofs.Prelude.{filter, list_any, slice_get, slice_set, length-append, length-drop}
-use Rattle.hub_laws.proofs.Prelude.{Entry, Step, Make, Call, Close, Exit, Cancel, Case, Send, Recv, Closed, Sent, Fault, Pid, Port, Value, Event}
+use Rattle.hub_laws.proofs.Prelude.{Entry, Step, Make, Call, Close, Exit, Cancel, Start, Reopen, reopens, reopened, Case, Send, Recv, Closed, Sent}
+use Rattle.hub_laws.proofs.Prelude.{Fault, Pid, Port, Value, Event}
 use Rattle.hub_laws.proofs.Prelude.{Channel, State, OpenCall, Change, Firing, Ending, Head}
 use Rattle.hub_laws.proofs.Prelude.{channel_at, buffer_of, after_send, after_receive, shut, with_sent, next_value, without, is_on, is_recv_on}
 use Rattle.hub_laws.proofs.Prelude.{is_send_on, first_with, port_of, ready, fired, opening, state, kept}
@@ -131,6 +132,11 @@ closes-weighs s pid p (Some c) is =
     writes 1 s (filter (λ call. not (list_any (is_on p) call.cases)) s.parked) p c (shut c) (sym is)
     (less_calls (λ call. not (list_any (is_on p) call.cases)) s.parked) (omega arith)
 
+reopens-weighs : (s : State) (pid : Pid) (p : Port) (cap : ℕ) (o : Option Channel) → o ≡ channel_at s p →
+    weight_of (reopens s pid p cap o).state ≤ weight_of s + 1
+reopens-weighs s pid p cap None is = omega arith
+reopens-weighs s pid p cap (Some c) is = writes 1 s s.parked p c (reopened cap c) (sym is) (omega arith) (omega arith)
+
 -- a step, an exit by none
 effect-weighs : (s : State) (e : Entry) → weight_of (effect s e.pid e.step).state ≤ weight_of s + one_step e
 effect-weighs s e = by e.step refl
@@ -140,6 +146,8 @@ effect-weighs s e = by e.step refl
     by (Call cases default word) is = chooses-weighs s e.pid cases.items default (slice_get (ready s cases.items) (word % length (ready s cases.items)))
     by (Close p) is = closes-weighs s e.pid p (channel_at s p) refl
     by Exit is = omega arith
+    by (Start q) is = omega arith
+    by (Reopen p cap) is = reopens-weighs s e.pid p cap (channel_at s p) refl
     by (Cancel q) is = let l = less_calls (λ call. not (call.pid.0 == q.0)) s.parked in omega arith
 
 stalls-weighs : (c : Change) (b : Bool) →

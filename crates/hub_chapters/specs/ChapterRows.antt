@@ -5,7 +5,8 @@ use Rattle.hub_base.specs.declared.event.Outcome.TheVariants.{Sent}
 use Rattle.hub_base.specs.declared.event.What.TheVariants as what
 use Rattle.hub_base.specs.declared.head.Edition.TheVariants.{One}
 use Rattle.hub_base.specs.Head.{head_of}
-use Rattle.hub_base.specs.Notation.{procs, procs_two, port, s, r, make, select, send, recv, close, exit, cancel, case, told, got, parked}
+use Rattle.hub_base.specs.Notation.{procs, procs_two, port, s, r, make, select, send, recv, close, exit, cancel, case, told, got, parked, procs_three}
+use Rattle.hub_base.specs.Notation.{start, reopen}
 use Rattle.hub_base.specs.Runs.{state, events_after}
 use Rattle.hub_base.specs.Value.{value_of}
 use Rattle.hub_laws.specs.Journals.{IsLegal}
@@ -102,6 +103,13 @@ cancelled_row = refl
 -- entries that were refused, and faults, leave nothing
 pub refused_row : checkpoint (state (procs 1) (make 0 1 ∷ exit 9 ∷ close 0 0 ∷ recv 0 7 ∷ [])) ≡ make 0 1 ∷ []
 refused_row = refl
+
+-- nor do starts and reopens: who was started again has no exit there, and a port that was opened again has its new capacity
+pub lives_row :
+    checkpoint (state (procs_three 3) (
+    make 0 1 ∷ send 0 1 4 ∷ close 0 1 ∷ recv 0 1 ∷ exit 1 ∷ exit 2 ∷ start 0 1 ∷ reopen 0 1 2 ∷ send 1 1 5 ∷ []))
+    ≡ make 0 2 ∷ send 0 1 5 ∷ exit 2 ∷ []
+lives_row = refl
 
 -- so many steps a checkpoint has at most
 pub most_steps_row : most_steps (head_of One 64) ≡ 65728

@@ -5,7 +5,7 @@ use Rattle.std.proofs.lemmas.Grind.{common_steps}
 use Rattle.std.specs.Prelude.{OnOk, OnErr}
 use Rattle.hub_base.specs.declared.value.Pid.{Pid}
 use Rattle.hub_base.specs.Entry.{Entry, Step}
-use Rattle.hub_base.specs.declared.entry.Step.TheVariants.{Make, Call, Close, Exit, Cancel}
+use Rattle.hub_base.specs.declared.entry.Step.TheVariants.{Make, Call, Close, Exit, Cancel, Start, Reopen}
 use Rattle.hub_base.specs.declared.event.Event.{Event}
 use Rattle.hub_base.specs.declared.event.What.TheVariants as what
 use Rattle.hub_base.specs.declared.fault.Fault.{Fault}
@@ -20,8 +20,8 @@ use Rattle.hub_parts.specs.Lists.{IsMade}
 use Rattle.hub_core.specs.Hearing.{Heard}
 use Rattle.hub_core.specs.declared.tally.Tally.{Tally}
 use Rattle.hub_core.specs.Records.{MachineLists, machine_of}
-use Rattle.hub_core.specs.Follows.{IsMake, Acts}
-use Rattle.hub_core.specs.ListSteps.{ListChange, fault_on, is_unmade_on, open_on, effect_on, told_fault, acts_by, acts_on}
+use Rattle.hub_core.specs.Follows.{TakesMemory, Acts}
+use Rattle.hub_core.specs.ListSteps.{ListChange, fault_on, is_unmade_on, gone_on, open_on, effect_on, told_fault, acts_by, acts_on}
 use Rattle.hub_core.specs.ListSteps.{all_wait_on, all_stalled, stalls_on, refusal_of, none_open, stalled_events, with_board, with_steps}
 use Rattle.hub_core.specs.ListSteps.{answers_on, counted, turn_on}
 use Rattle.hub_core.proofs.Reached.{awake}
@@ -31,19 +31,33 @@ open_true : (b : Bool) → cond b None (Some fault.NotParked) ≡ None → b ≡
 open_true true h = refl
 open_true false h = cc
 
-pub fine_make : (edition : Edition) (b : Lists) (cap : ℕ) → fault_on edition b (Make cap) ≡ None → length b.ports < MOST_PORTS
-fine_make edition b cap h =
+pub fine_make : (edition : Edition) (b : Lists) (gone : List Bool) (cap : ℕ) → fault_on edition b gone (Make cap) ≡ None → length b.ports < MOST_PORTS
+fine_make edition b gone cap h =
     let few = none_false (nat_le MOST_PORTS (length b.ports)) fault.TooManyPorts None (none_false (nat_lt MOST_CAP cap) fault.BadCap _ h).1 in
     grind (arith, common_steps, few.0)
 
-pub fine_close : (edition : Edition) (b : Lists) (p : Port) → fault_on edition b (Close p) ≡ None → IsMade b p
-fine_close edition b p h =
+pub fine_close : (edition : Edition) (b : Lists) (gone : List Bool) (p : Port) → fault_on edition b gone (Close p) ≡ None → IsMade b p
+fine_close edition b gone p h =
     let made = none_false (is_unmade_on b p) fault.NoPort _ h in
     let named = none_false (p.0 == 0) fault.NilClose _ made.1 in
     (grind (arith, common_steps, named.0), grind (arith, common_steps, made.0))
 
-pub fine_cancel : (edition : Edition) (b : Lists) (q : Pid) → fault_on edition b (Cancel q) ≡ None → open_on b.waiting q.0 ≡ true
-fine_cancel edition b q h = open_true (open_on b.waiting q.0) h
+pub fine_cancel : (edition : Edition) (b : Lists) (gone : List Bool) (q : Pid) → fault_on edition b gone (Cancel q) ≡ None → open_on b.waiting q.0 ≡ true
+fine_cancel edition b gone q h = open_true (open_on b.waiting q.0) h
+
+gone_true : (b : Bool) → cond b None (Some fault.NotGone) ≡ None → b ≡ true
+gone_true true h = refl
+gone_true false h = cc
+
+pub fine_start : (edition : Edition) (b : Lists) (gone : List Bool) (q : Pid) → fault_on edition b gone (Start q) ≡ None → gone_on gone q.0 ≡ true
+fine_start edition b gone q h = gone_true (gone_on gone q.0) h
+
+pub fine_reopen : (edition : Edition) (b : Lists) (gone : List Bool) (p : Port) (cap : ℕ) → fault_on edition b gone (Reopen p cap) ≡ None → IsMade b p
+fine_reopen edition b gone p cap h =
+    let made = none_false (is_unmade_on b p) fault.NoPort _ h in
+    let few = none_false (nat_lt MOST_CAP cap) fault.BadCap _ made.1 in
+    let named = none_false (p.0 == 0) fault.NilClose _ few.1 in
+    (grind (arith, common_steps, named.0), grind (arith, common_steps, made.0))
 
 -- equal boards and counts make equal machines
 pub machine_as : {b c : Lists} {ts us : List Tally} (edition : Edition) (gone : List Bool) (steps : ℕ) → b ≡ c → ts ≡ us
@@ -66,7 +80,7 @@ on_err (Err e) holds = holds
 
 -- a step that has taken effect
 pub takes_effect : {E S : Type 0} {heard : S → List Event → S → Type 0} {room : S → ℕ} {old new : MachineLists} {pid : Pid} {before after : S}
-    (step : Step) → fault_on old.edition old.board step ≡ None → new ≡ (effect_on old pid step).machine
+    (step : Step) → fault_on old.edition old.board old.gone step ≡ None → new ≡ (effect_on old pid step).machine
     → Heard heard room before after (effect_on old pid step).events → Acts {E = E} heard room old pid step new before after (Ok tt)
 takes_effect {E} {S} {heard} {room} {old} {new} {pid} {before} {after} step fine machine told =
     let is : effect_on old pid step ≡ acts_on old pid step = ap (acts_by old pid step) (sym fine) in
@@ -81,7 +95,7 @@ takes_effect {E} {S} {heard} {room} {old} {new} {pid} {before} {after} step fine
 
 -- a step that is told its fault
 pub tells_fault : {E S : Type 0} {heard : S → List Event → S → Type 0} {room : S → ℕ} {old : MachineLists} {pid : Pid} {before after : S}
-    (step : Step) (f : Fault) → fault_on old.edition old.board step ≡ Some f
+    (step : Step) (f : Fault) → fault_on old.edition old.board old.gone step ≡ Some f
     → Heard heard room before after (tells pid (what.Fault f) ∷ []) → Acts {E = E} heard room old pid step old before after (Ok tt)
 tells_fault {E} {S} {heard} {room} {old} {pid} {before} {after} step f fault told =
     let is : told_fault old pid f ≡ acts_on old pid step = ap (acts_by old pid step) (sym fault) in
@@ -96,7 +110,7 @@ tells_fault {E} {S} {heard} {room} {old} {pid} {before} {after} step f fault tol
 
 -- a make, which memory may be refused
 pub makes_or_not : {E S : Type 0} {heard : S → List Event → S → Type 0} {room : S → ℕ} {old new : MachineLists} {pid : Pid} {before after : S}
-    (step : Step) (result : Result (Unit {0}) E) → IsMake step → fault_on old.edition old.board step ≡ None
+    (step : Step) (result : Result (Unit {0}) E) → TakesMemory step → fault_on old.edition old.board old.gone step ≡ None
     → OnOk result (new ≡ (effect_on old pid step).machine) → OnOk result (Heard heard room before after (effect_on old pid step).events)
     → OnErr result (new ≡ old) → OnErr result (after ≡ before) → Acts {E = E} heard room old pid step new before after result
 makes_or_not {E} {S} {heard} {room} {old} {new} {pid} {before} {after} step result make fine machine told unchanged silent =
@@ -117,13 +131,15 @@ effect-steps m pid (Call cases default word) = refl
 effect-steps m pid (Close p) = refl
 effect-steps m pid Exit = refl
 effect-steps m pid (Cancel q) = refl
+effect-steps m pid (Start q) = refl
+effect-steps m pid (Reopen p cap) = refl
 
 acts_by-steps : (m : MachineLists) (pid : Pid) (step : Step) (o : Option Fault) → (acts_by m pid step o).machine.steps ≡ m.steps
 acts_by-steps m pid step None = effect-steps m pid step
 acts_by-steps m pid step (Some f) = refl
 
 acts-steps : (m : MachineLists) (pid : Pid) (step : Step) → (acts_on m pid step).machine.steps ≡ m.steps
-acts-steps m pid step = acts_by-steps m pid step (fault_on m.edition m.board step)
+acts-steps m pid step = acts_by-steps m pid step (fault_on m.edition m.board m.gone step)
 
 stalls_awake : (c : ListChange) → all_wait_on c.machine.board c.machine.gone ≡ false → stalls_on c ≡ c
 stalls_awake c h = ap (λ all. cond all (all_stalled c) c) h
@@ -134,7 +150,7 @@ acts_stall m e None h = refl
 acts_stall m e (Some f) h = stalls_awake (told_fault m e.pid f) (awake m.board m.gone e.pid h)
 
 turn_acts : (m : MachineLists) (e : Entry) → refusal_of m.board m.gone e.pid ≡ None → turn_on m e ≡ counted m.steps (stalls_on (acts_on m e.pid e.step))
-turn_acts m e h = ap (counted m.steps) (sym (acts_stall m e (fault_on m.edition m.board e.step) h))
+turn_acts m e h = ap (counted m.steps) (sym (acts_stall m e (fault_on m.edition m.board m.gone e.step) h))
 
 -- where all wait behind it
 turn_stalls : (m : MachineLists) (e : Entry) → refusal_of m.board m.gone e.pid ≡ None

@@ -12,7 +12,7 @@ use Rattle.hub_laws.specs.Sound.{Apart}
 use Rattle.hub_parts.specs.Records.{Lists, Ticketed}
 use Rattle.hub_parts.specs.Lists.{open_calls}
 use Rattle.hub_core.specs.ListSteps.{gone_on, open_on, count_gone, ArePresent, all_wait_on, refusal_of}
-use Rattle.hub_core.proofs.Effects.{gone-more}
+use Rattle.hub_core.proofs.Effects.{gone-more, gone-fewer, gone-within}
 use Rattle.hub_core.proofs.Stalls.{open_on-calls}
 use Rattle.hub_core.proofs.Following.{none-gone}
 
@@ -55,6 +55,27 @@ count-exit b gone pid count procs same is room h =
     let more = count-or (gone_on (slice_set gone pid.0 true)) (gone_on gone) (λ q. pid.0 == q) (range_with_len 0 procs)
     (λ q. gone-more gone pid.0 q (pid.0 == q) (omega arith) refl) (λ q e. subst (λ n. gone_on gone n ≡ false) (eqb-true pid.0 q e) may.1) in
     omega (arith, more, count-one pid.0 0 procs (omega arith) (omega arith))
+
+-- one that had exited is started
+pub count-start : (gone : List Bool) (q count procs : ℕ) → count ≡ count_gone gone procs → gone_on gone q ≡ true → q < procs
+    → count_gone (slice_set gone q false) procs + 1 ≡ count
+count-start gone q count procs is some below =
+    let room = gone-within gone q some in
+    let more = count-or (gone_on gone) (gone_on (slice_set gone q false)) (λ r. q == r) (range_with_len 0 procs)
+    (λ r. split (gone_on gone r) (gone_on (slice_set gone q false) r) (q == r) (gone-fewer gone q r (q == r) room refl)
+    (λ e. subst (λ n. gone_on gone n ≡ true) (eqb-true q r e) some))
+    (λ r e. gone-fewer gone q r (q == r) room refl ∙ rw e (none (gone_on gone r))) in
+    omega (arith, more, is, count-one q 0 procs (omega arith) (omega (arith, below)))
+  where
+    split : (a b c : Bool) → b ≡ (a && not c) → (c ≡ true → a ≡ true) → a ≡ (b || c)
+    split true b true is h = rw is refl
+    split true b false is h = rw is refl
+    split false b true is h = let g : false ≡ true = h refl in cc
+    split false b false is h = rw is refl
+
+    none : (a : Bool) → (a && not true) ≡ false
+    none true = refl
+    none false = refl
 
 -- ---- the processes that have an open call
 count-open : (ws : List Ticketed) (procs : ℕ) → Apart (open_calls ws) → ((q : ℕ) → open_on ws q ≡ true → q < procs)

@@ -8,7 +8,7 @@ use Rattle.std.proofs.lemmas.List.{length_push}
 use Rattle.hub_base.specs.declared.head.Head.{Head}
 use Rattle.hub_base.specs.declared.value.Pid.{Pid}
 use Rattle.hub_base.specs.Entry.{Entry, Step}
-use Rattle.hub_base.specs.declared.entry.Step.TheVariants.{Make, Call, Close, Exit, Cancel}
+use Rattle.hub_base.specs.declared.entry.Step.TheVariants.{Make, Call, Close, Exit, Cancel, Start, Reopen}
 use Rattle.hub_base.specs.declared.fault.Fault.{Fault}
 use Rattle.hub_base.specs.declared.fault.Fault.TheVariants as fault
 use Rattle.hub_base.specs.declared.event.Event.{Event}
@@ -52,7 +52,7 @@ answers_by s m e None sound h room is = stalls_on-as (effect s e.pid e.step) (ef
 answers_by s m e (Some f) sound h room is = record { events = refl; state = h }
 
 pub answers_on-as : (s : State) (m : MachineLists) (e : Entry) → IsSound s → Matches s m → e.pid.0 < length m.gone
-    → StepsAs (turn s e) (answers_on m e (fault_on m.edition m.board e.step))
+    → StepsAs (turn s e) (answers_on m e (fault_on m.edition m.board m.gone e.step))
 answers_on-as s m e sound h room = rw (fault_on-as s m e.step h) (answers_by s m e (fault_of s e.step) sound h room refl)
 
 -- ---- tickets
@@ -72,6 +72,8 @@ opens_by journal n pid (Call cases default word) h = rw h (refl, refl)
 opens_by journal n pid (Close p) h = tt
 opens_by journal n pid Exit h = tt
 opens_by journal n pid (Cancel q) h = tt
+opens_by journal n pid (Start q) h = tt
+opens_by journal n pid (Reopen p cap) h = tt
 
 -- ---- Follows
 pub follows_on : (head : Head) (es : List Entry) (e : Entry) (m : MachineLists) → Follows head es m → refusal (state head es) e.pid ≡ None
@@ -81,7 +83,7 @@ follows_on head es e m h adm room =
     let moved = moves-admitted (state head es) e adm in
     let grown = kept-admitted head es e adm in
     let last : slice_get (kept head (es ++ e ∷ [])) m.steps ≡ Some e = rw (grown, h.steps) (get_seam (kept head es) e) in
-    let left = answers_on_leaves (IsTicket (kept head (es ++ e ∷ []))) m.steps m e (fault_on m.edition m.board e.step) refl
+    let left = answers_on_leaves (IsTicket (kept head (es ++ e ∷ []))) m.steps m e (fault_on m.edition m.board m.gone e.step) refl
     (opens_by (kept head (es ++ e ∷ [])) m.steps e.pid e.step last) in
     record {
       admitted = adm;
@@ -147,7 +149,7 @@ none-gone (suc k) (suc q) = none-gone k q
 
 pub follows_opening : (head : Head) → Follows head [] (opened_machine head)
 follows_opening head = record {
-  matches = record { edition = refl; procs = refl; calls = refl; ports = refl; counts = refl; gone = λ q below. none-gone MOST_PROCS q };
+  matches = record { edition = refl; procs = refl; calls = refl; ports = refl; counts = refl; gone = λ q. none-gone MOST_PROCS q };
   steps = refl;
   later = omega arith;
   tickets = tt;

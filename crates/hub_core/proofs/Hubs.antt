@@ -1,5 +1,5 @@
 -- The journal of a hub has room for its places and for the exit of each process, and what a step leaves of a hub.
-use Rattle.std.proofs.Common.{◌≡◌, ℕ, zero, suc, ◌+◌, ◌-◌, ◌≤◌, ◌<◌, ◌^◌, Bool, true, false, cond, List, [], ◌∷◌}
+use Rattle.std.proofs.Common.{◌≡◌, ℕ, zero, suc, ◌+◌, ◌-◌, ◌≤◌, ◌<◌, ◌^◌, ◌*◌, Bool, true, false, cond, List, [], ◌∷◌}
 use Rattle.std.proofs.Common.{◌++◌, length, refl, ap, ◌∙◌, sym, subst, ◌&&◌, None, arith, length-append}
 use Rattle.std.specs.Prelude.{Result, Ok, Err, IsErr, IsErrAnd}
 use Rattle.std.specs.List.{list_all}
@@ -10,28 +10,49 @@ use Rattle.hub_base.specs.declared.event.Event.{Event}
 use Rattle.hub_base.specs.declared.fault.Fault.{Fault}
 use Rattle.hub_base.specs.declared.fault.Fault.TheVariants.{NoMemory}
 use Rattle.hub_base.specs.Entry.{Entry, Step}
-use Rattle.hub_base.specs.declared.entry.Step.TheVariants.{Make, Call, Close, Exit, Cancel}
+use Rattle.hub_base.specs.declared.entry.Step.TheVariants.{Make, Call, Close, Exit, Cancel, Start, Reopen}
 use Rattle.hub_base.specs.declared.limits.TheConstants.{MOST_PROCS, MOST_STEPS}
 use Rattle.hub_base.specs.Head.{is_of}
 use Rattle.hub_base.specs.Steps.{refusal}
-use Rattle.hub_base.specs.Runs.{state, kept}
+use Rattle.hub_base.specs.Runs.{state, kept, admits}
+use Rattle.hub_base.specs.State.{State}
 use Rattle.hub_base.specs.Reading.{is_exit}
 use Rattle.hub_base.specs.Text.{steps_of, one_step}
-use Rattle.hub_laws.proofs.Limits.{limits-law}
+use Rattle.hub_laws.proofs.Limits.{limits-law, gone-law}
+use Rattle.hub_laws.specs.Limits.{all_starts}
+use Rattle.hub_laws.proofs.Account.{with_leaver}
+use Rattle.hub_laws.proofs.Entries.{turn-account}
+use Rattle.hub_laws.proofs.Longer.{state-entry}
 use Rattle.hub_core.specs.Records.{MachineLists}
 use Rattle.hub_core.specs.declared.hub.HubOf.TheInside.{Inside}
 use Rattle.hub_core.specs.LogView.{LogView}
-use Rattle.hub_core.specs.Follows.{Follows, IsFine, IsMake, RefusesMake, Turns}
+use Rattle.hub_core.specs.Follows.{Follows, IsFine, TakesMemory, RefusesMake, Turns}
 use Rattle.hub_core.specs.ListSteps.{refusal_of}
 use Rattle.hub_core.specs.HubView.{HubInMemory, HubView, Grows, Refuses, Steps, StepRules, places_after, state_of, with_entry}
 use Rattle.hub_core.specs.HubKeeps.{HubKeeps, Takes, count_after, shown}
 use Rattle.hub_core.proofs.Following.{kept-admitted}
-use Rattle.hub_core.proofs.Reached.{steps-length}
 use Rattle.hub_core.proofs.Stalls.{refusal_of-as}
 
--- a journal is not longer than its steps and its processes
-pub journal_short : (head : Head) (journal : List Entry) → kept head journal ≡ journal → length journal ≤ steps_of journal + head.procs
-journal_short head journal legal = subst (λ (es : List Entry). length es ≤ steps_of es + head.procs) legal (limits-law head journal).length
+-- starts are steps
+pub starts-few : (es : List Entry) → length (all_starts es) ≤ steps_of es
+starts-few [] = omega arith
+starts-few (e ∷ es) = by e.step (starts-few es)
+  where
+    by : (step : Step) → length (all_starts es) ≤ steps_of es →
+        length (all_starts (record { pid = e.pid; step = step } ∷ es)) ≤ steps_of (record { pid = e.pid; step = step } ∷ es)
+    by (Make cap) h = omega (arith, h)
+    by (Call cases default word) h = omega (arith, h)
+    by (Close p) h = omega (arith, h)
+    by Exit h = omega (arith, h)
+    by (Cancel q) h = omega (arith, h)
+    by (Start q) h = omega (arith, h)
+    by (Reopen p cap) h = omega (arith, h)
+
+-- a journal is not longer than its steps, its starts and its processes
+pub journal_short : (head : Head) (journal : List Entry) → kept head journal ≡ journal → length journal ≤ 2 * steps_of journal + head.procs
+journal_short head journal legal =
+    let law = subst (λ (es : List Entry). length es ≤ steps_of es + head.procs + length (all_starts es)) legal (limits-law head journal).length in
+    omega (arith, law, starts-few journal)
 
 -- a machine that follows a legal journal has made few steps
 pub steps_few : (head : Head) (limit : ℕ) (journal : List Entry) (m : MachineLists) → Follows head journal m → kept head journal ≡ journal
@@ -57,17 +78,29 @@ pub legal_longer : (head : Head) (journal : List Entry) (e : Entry) → kept hea
     → kept head (journal ++ e ∷ []) ≡ journal ++ e ∷ []
 legal_longer head journal e legal adm = kept-admitted head journal e adm ∙ ap (λ (es : List Entry). es ++ e ∷ []) legal
 
--- the capacity is enough after a step, for a journal with so many steps and entries
-pub room_after : (step : Step) (count length places procs capacity : ℕ) → count ≤ length → count + places + procs ≤ capacity
-    → (Grows step places → length + places + procs + 1 ≤ capacity) → count_after step count + places_after step places + procs ≤ capacity
-room_after (Make cap) count length places procs capacity few room spare = omega (arith, spare tt)
-room_after (Call cases default word) count length zero procs capacity few room spare = omega (arith, spare refl)
-room_after (Call cases default word) count length (suc places) procs capacity few room spare = omega arith
-room_after (Close p) count length zero procs capacity few room spare = omega (arith, spare refl)
-room_after (Close p) count length (suc places) procs capacity few room spare = omega arith
-room_after Exit count length places procs capacity few room spare = omega arith
-room_after (Cancel q) count length zero procs capacity few room spare = omega (arith, spare refl)
-room_after (Cancel q) count length (suc places) procs capacity few room spare = omega arith
+-- who has exited after an admitted entry
+gone_then : (head : Head) (journal : List Entry) (e : Entry) → refusal (state head journal) e.pid ≡ None →
+    (state head (journal ++ e ∷ [])).gone ≡ with_leaver (state head journal).gone e.pid e.step
+gone_then head journal e adm =
+    ap (λ (s : State). s.gone) (state-entry head journal e)
+    ∙ ap (λ o. (admits (state head journal) e o).state.gone) adm
+    ∙ (turn-account (state head journal) e).gone
+
+-- the capacity is enough after a step, for a journal of so many entries
+pub room_after : (step : Step) (gone : List Pid) (pid : Pid) (n places procs capacity : ℕ) →
+    n + places + procs ≤ capacity + length gone →
+    (Grows step places → n + places + procs + 1 ≤ capacity) →
+    n + 1 + places_after step places + procs ≤ capacity + length (with_leaver gone pid step)
+room_after (Make cap) gone pid n places procs capacity room spare = omega (arith, spare tt)
+room_after (Start q) gone pid n places procs capacity room spare = omega (arith, spare tt)
+room_after (Reopen p cap) gone pid n places procs capacity room spare = omega (arith, spare tt)
+room_after (Call cases default word) gone pid n zero procs capacity room spare = omega (arith, spare refl)
+room_after (Call cases default word) gone pid n (suc places) procs capacity room spare = omega (arith, room)
+room_after (Close p) gone pid n zero procs capacity room spare = omega (arith, spare refl)
+room_after (Close p) gone pid n (suc places) procs capacity room spare = omega (arith, room)
+room_after (Cancel q) gone pid n zero procs capacity room spare = omega (arith, spare refl)
+room_after (Cancel q) gone pid n (suc places) procs capacity room spare = omega (arith, room)
+room_after Exit gone pid n places procs capacity room spare = omega (arith, room, length-append gone (pid ∷ []))
 
 within_by : (b : Bool) (count limit : ℕ) → count ≤ limit → (b ≡ false → count < limit) → cond b count (count + 1) ≤ limit
 within_by true count limit h room = h
@@ -75,14 +108,6 @@ within_by false count limit h room = omega (arith, room refl)
 
 pub count_within : (step : Step) (count limit : ℕ) → count ≤ limit → (is_exit step ≡ false → count < limit) → count_after step count ≤ limit
 count_within step count limit h room = within_by (is_exit step) count limit h room
-
--- one admitted entry more finds a place
-pub entry_fits : (head : Head) (journal : List Entry) (e : Entry) (count places capacity : ℕ) → kept head journal ≡ journal
-    → refusal (state head journal) e.pid ≡ None → count ≡ steps_of journal → count_after e.step count + places + head.procs ≤ capacity
-    → length journal + 1 ≤ capacity
-entry_fits head journal e count places capacity legal adm is room =
-    let short = journal_short head (journal ++ e ∷ []) (legal_longer head journal e legal adm) in
-    omega (arith, short, count-snoc journal e count is, length-append journal (e ∷ []))
 
 -- ---- a step of a hub
 
@@ -96,16 +121,17 @@ pub turn_admitted : {F : Type 0} (h : Inside F) (pid : Pid) → HubKeeps h → r
 turn_admitted h pid k admitted = refusal_of-as (state h.terms.head h.entries.items) h.machine pid k.follows.matches ∙ admitted
 
 made_room : {F : Type 0} (h : Inside F) (e : Entry) → HubKeeps h → Takes (shown h) e
-    → count_after e.step h.count + places_after e.step h.places + h.terms.head.procs ≤ h.entries.capacity
+    → length h.entries.items + 1 + places_after e.step h.places + h.terms.head.procs
+    ≤ h.entries.capacity + length (state h.terms.head (h.entries.items ++ e ∷ [])).gone
 made_room h e k takes =
-    room_after e.step h.count (length h.entries.items) h.places h.terms.head.procs (h.entries.capacity)
-    (omega (arith, steps-length h.entries.items, k.count)) k.room takes.spare
+    let s : State = state h.terms.head h.entries.items in
+    let room = room_after e.step s.gone e.pid (length h.entries.items) h.places h.terms.head.procs (h.entries.capacity) k.room takes.spare in
+    let then = ap length (gone_then h.terms.head h.entries.items e takes.admitted) in
+    omega (arith, room, then)
 
 -- an entry that the hub takes finds a place
 pub has_place : {F : Type 0} (h : Inside F) (e : Entry) → HubKeeps h → Takes (shown h) e → length h.entries.items + 1 ≤ h.entries.capacity
-has_place h e k takes =
-    entry_fits h.terms.head h.entries.items e h.count (places_after e.step h.places) (h.entries.capacity) k.legal takes.admitted k.count
-    (made_room h e k takes)
+has_place h e k takes = omega (arith, made_room h e k takes, gone-law h.terms.head (h.entries.items ++ e ∷ []))
 
 pub keeps_made : {F : Type 0} (h : Inside F) (e : Entry) (entries : LogView) (machine : MachineLists) (told : List Event) (count places : ℕ) → HubKeeps h
     → Takes (shown h) e → is_of h.terms.head.edition e.step ≡ true → Turns h.machine e machine told
@@ -122,7 +148,11 @@ keeps_made h e entries machine told count places k takes fits turns grown same c
   follows = subst (λ (es : List Entry). Follows h.terms.head es machine) (sym grown) (turns.ok h.terms.head h.entries.items k.follows).follows;
   count = counted ∙ count-snoc h.entries.items e h.count k.count ∙ ap steps_of (sym grown);
   within = omega (arith, counted, count_within e.step h.count h.terms.limit k.within (λ exit. omega (arith, takes.room exit, k.count)));
-  room = omega (arith, made_room h e k takes, counted, placed, same);
+  room =
+      let items : entries.items ≡ h.entries.items ++ e ∷ [] = grown in
+      let long = ap length grown ∙ length-append h.entries.items (e ∷ []) in
+      let gone = ap (λ (es : List Entry). length (state h.terms.head es).gone) grown in
+      omega (arith, made_room h e k takes, placed, same, long, gone);
 }
 
 pub steps_made : {F : Type 0} {h : Inside F} {old new : HubView} (e : Entry) {machine : MachineLists} {told : List Event} → HubKeeps h → Takes (shown h) e
@@ -151,12 +181,14 @@ rules_made {old} r same = record {
   capacity = subst (λ (n : ℕ). old.capacity ≤ n) (sym same) r.capacity;
 }
 
-make_grows : (step : Step) (places : ℕ) → IsMake step → Grows step places
+make_grows : (step : Step) (places : ℕ) → TakesMemory step → Grows step places
 make_grows (Make cap) places make = tt
 make_grows (Call cases default word) places make = absurd make
 make_grows (Close p) places make = absurd make
 make_grows Exit places make = absurd make
 make_grows (Cancel q) places make = absurd make
+make_grows (Start q) places make = absurd make
+make_grows (Reopen p cap) places make = tt
 
 -- an admitted make that the machine refuses memory
 pub rules_refused : {F : Type 0} {h : Inside F} {old mid new : HubInMemory} {e : Entry} {machine : MachineLists} {told : List Event}

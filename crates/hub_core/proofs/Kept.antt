@@ -7,7 +7,7 @@ use Rattle.hub_base.specs.declared.value.Value.{Value}
 use Rattle.hub_base.specs.declared.case.Case.{Case}
 use Rattle.hub_base.specs.declared.case.Case.TheVariants.{Send, Recv}
 use Rattle.hub_base.specs.Entry.{Entry, Step}
-use Rattle.hub_base.specs.declared.entry.Step.TheVariants.{Make, Call, Close, Exit, Cancel}
+use Rattle.hub_base.specs.declared.entry.Step.TheVariants.{Make, Call, Close, Exit, Cancel, Start, Reopen}
 use Rattle.hub_base.specs.declared.fault.Fault.{Fault}
 use Rattle.hub_base.specs.declared.event.Outcome.TheVariants.{Closed}
 use Rattle.hub_base.specs.Ready.{Ending, first_with, is_recv_on, is_send_on}
@@ -91,6 +91,8 @@ module _ (P : Ticketed → Type 0) (n : ℕ) where
   Opens pid (Close p) = Unit {0}
   Opens pid Exit = Unit {0}
   Opens pid (Cancel q) = Unit {0}
+  Opens pid (Start q) = Unit {0}
+  Opens pid (Reopen p cap) = Unit {0}
 
   pub effect_on_leaves : (m : MachineLists) (pid : Pid) (step : Step) → m.steps ≡ n → Opens pid step → Leaves m.board (effect_on m pid step).machine.board
   effect_on_leaves m pid (Make cap) is new = same_calls m.board _ refl refl refl
@@ -99,6 +101,8 @@ module _ (P : Ticketed → Type 0) (n : ℕ) where
   effect_on_leaves m pid (Close p) is new = record { waiting = λ h. all_kept P _ m.board.waiting h; next = λ h. omega arith; procs = refl }
   effect_on_leaves m pid Exit is new = same_calls m.board _ refl refl refl
   effect_on_leaves m pid (Cancel q) is new = one_ended m.board _ q refl refl refl
+  effect_on_leaves m pid (Start q) is new = same_calls m.board _ refl refl refl
+  effect_on_leaves m pid (Reopen p cap) is new = same_calls m.board _ refl refl refl
 
   stalls_on_leaves : (b : Lists) (c : ListChange) → Leaves b c.machine.board → Leaves b (stalls_on c).machine.board
   stalls_on_leaves b c h =

@@ -18,7 +18,8 @@ use Rattle.hub_core.specs.declared.brief.Brief.{Brief}
 use Rattle.hub_core.specs.declared.brief.Brief.TheVariants as brief
 use Rattle.hub_core.specs.declared.log.Log.TheInside.{Inside}
 use Rattle.hub_core.specs.LogKeeps.{log_shown}
-use Rattle.hub_core.specs.LogView.{AreBriefs, LogView, BeginsAt, IsBriefOf, IsWhole, StandFrom, case_count, cases_beside, entry_of, first_of, own_of, written}
+use Rattle.hub_core.specs.LogView.{AreBriefs, LogView, BeginsAt, IsBriefOf, IsWhole, StandFrom, case_count, cases_beside, entry_of, first_of, own_of}
+use Rattle.hub_core.specs.LogView.{written}
 
 -- its cases, with where they stand
 pub record Own (b : Brief) (n : ℕ) (all : List Case) : Type 0 where
@@ -36,6 +37,8 @@ own_there (brief.Make pid cap) n all begins = record { own = refl; within = λ f
 own_there (brief.Close pid p) n all begins = record { own = refl; within = λ fits. omega arith }
 own_there (brief.Exit pid) n all begins = record { own = refl; within = λ fits. omega arith }
 own_there (brief.Cancel pid q) n all begins = record { own = refl; within = λ fits. omega arith }
+own_there (brief.Start pid q) n all begins = record { own = refl; within = λ fits. omega arith }
+own_there (brief.Reopen pid p cap) n all begins = record { own = refl; within = λ fits. omega arith }
 
 take_all : (n : ℕ) (cs ds : List Case) → cs ≡ [] → n ≡ length ds → take n (cs ++ ds) ≡ ds
 take_all n cs ds none is = (λ i. take (is i) (none i ++ ds)) ∙ take-length ds
@@ -204,6 +207,8 @@ same_pid (brief.Make pid cap) cs ds = refl
 same_pid (brief.Close pid p) cs ds = refl
 same_pid (brief.Exit pid) cs ds = refl
 same_pid (brief.Cancel pid q) cs ds = refl
+same_pid (brief.Start pid q) cs ds = refl
+same_pid (brief.Reopen pid p cap) cs ds = refl
 
 pub same_kind : (b : Brief) (cs ds : List Case) → is_call (entry_of b cs).step ≡ is_call (entry_of b ds).step
 same_kind (brief.Send pid p number) cs ds = refl
@@ -213,6 +218,8 @@ same_kind (brief.Make pid cap) cs ds = refl
 same_kind (brief.Close pid p) cs ds = refl
 same_kind (brief.Exit pid) cs ds = refl
 same_kind (brief.Cancel pid q) cs ds = refl
+same_kind (brief.Start pid q) cs ds = refl
+same_kind (brief.Reopen pid p cap) cs ds = refl
 
 -- a brief with its cases
 pub record Stands (bs : List Brief) (left all : List Case) (i : ℕ) (b : Brief) : Type 0 where
@@ -259,6 +266,8 @@ whole_beside e (brief.Make pid cap) whole = refl
 whole_beside e (brief.Close pid p) whole = refl
 whole_beside e (brief.Exit pid) whole = refl
 whole_beside e (brief.Cancel pid q) whole = refl
+whole_beside e (brief.Start pid q) whole = refl
+whole_beside e (brief.Reopen pid p cap) whole = refl
 
 pub gains_whole : {bs more : List Brief} {cs : List Case} {b : Brief} (e : Entry) → AreBriefs bs cs → IsWhole e b → more ≡ bs ++ b ∷ []
     → Gains bs more cs cs e

@@ -44,6 +44,10 @@ use Rattle.hub_core.proofs.Ports.{port-lists_of, tally-tally_of}
 use Rattle.hub_core.proofs.Readiness.{count-ports, get_within, length-buffer_of}
 use Rattle.hub_core.proofs.Effects.{fault_on-as, effect_on-as}
 use Rattle.hub_core.proofs.Stalls.{open_on-as, refusal_of-as, count-calls}
+use Rattle.hub_laws.proofs.Limits.{gone-below}
+use Rattle.hub_laws.proofs.Account.{procs-of}
+use Rattle.hub_laws.proofs.Lasting.{head-after}
+use Rattle.hub_base.specs.State.{opening}
 
 -- ---- the ports
 pub count-counts : (s : State) (m : MachineLists) → Matches s m → length m.counts ≡ length s.channels
@@ -99,14 +103,22 @@ room_left m pid r h few =
     let s = state r.0 r.1 in
     omega (arith, room-law s pid (state-sound r.0 r.1) (is_admitted m pid r h), count-calls s m r.2.matches, r.2.matches.procs)
 
+-- who has exited is a process that there is
+pub gone_here : (m : MachineLists) (q : ℕ) → IsReached m → gone_on m.gone q ≡ true → q < m.board.procs
+gone_here m q r h =
+    let there = gone-below r.0 r.1 q (sym (r.2.matches.gone q) ∙ h) in
+    let procs : (state r.0 r.1).head.procs ≡ r.0.procs = procs-of (head-after (opening r.0) r.1) in
+    omega (arith, there, r.2.matches.procs, procs)
+
 -- what is known behind a step, before the stall rule
 pub record BeforeStall (m : MachineLists) (told : List Event) : Type 0 where
   pub apart : Apart (open_calls m.board.waiting)
   pub present : ArePresent m.board.waiting m.gone m.board.procs
   pub room : length told + length m.board.waiting ≤ MOST_EVENTS
 
-before_stall : (m : MachineLists) (pid : Pid) (step : Step) → IsReached m → refusal_of m.board m.gone pid ≡ None → fault_on m.edition m.board step ≡ None
-    → m.board.procs ≤ MOST_PROCS → length m.gone ≡ MOST_PROCS → BeforeStall (effect_on m pid step).machine (effect_on m pid step).events
+before_stall : (m : MachineLists) (pid : Pid) (step : Step) → IsReached m → refusal_of m.board m.gone pid ≡ None
+    → fault_on m.edition m.board m.gone step ≡ None → m.board.procs ≤ MOST_PROCS → length m.gone ≡ MOST_PROCS
+    → BeforeStall (effect_on m pid step).machine (effect_on m pid step).events
 before_stall m pid step r h fine few places =
     let s = state r.0 r.1 in
     let sound = state-sound r.0 r.1 in
@@ -118,7 +130,7 @@ before_stall m pid step r h fine few places =
       apart = subst Apart (sym same.state.calls) after.apart;
       present = λ q waits.
           let there = after.present q (sym (open_on-as (effect s pid step).state (effect_on m pid step).machine q same.state) ∙ waits) in
-          (omega (arith, there.0, same.state.procs), same.state.gone q there.0 ∙ there.1);
+          (omega (arith, there.0, same.state.procs), same.state.gone q ∙ there.1);
       room = omega (
         arith,
         effect_size s pid step sound,
@@ -133,9 +145,9 @@ present_of : (m : MachineLists) → IsReached m → ArePresent m.board.waiting m
 present_of m r q waits =
     let s = state r.0 r.1 in
     let there = (state-sound r.0 r.1).present q (sym (open_on-as s m q r.2.matches) ∙ waits) in
-    (omega (arith, there.0, r.2.matches.procs), r.2.matches.gone q there.0 ∙ there.1)
+    (omega (arith, there.0, r.2.matches.procs), r.2.matches.gone q ∙ there.1)
 
-acts_before_stall : (m : MachineLists) (pid : Pid) (step : Step) (o : Option Fault) → o ≡ fault_on m.edition m.board step → IsReached m
+acts_before_stall : (m : MachineLists) (pid : Pid) (step : Step) (o : Option Fault) → o ≡ fault_on m.edition m.board m.gone step → IsReached m
     → refusal_of m.board m.gone pid ≡ None → m.board.procs ≤ MOST_PROCS → length m.gone ≡ MOST_PROCS
     → BeforeStall (acts_by m pid step o).machine (acts_by m pid step o).events
 acts_before_stall m pid step None is r h few places = before_stall m pid step r h (sym is) few places
@@ -146,7 +158,7 @@ acts_before_stall m pid step (Some f) is r h few places =
 pub before_stall_of : (m next : MachineLists) (pid : Pid) (step : Step) → IsReached m → refusal_of m.board m.gone pid ≡ None →
     m.board.procs ≤ MOST_PROCS → length m.gone ≡ MOST_PROCS → next ≡ (acts_on m pid step).machine → BeforeStall next (acts_on m pid step).events
 before_stall_of m next pid step r h few places machine =
-    rw machine (acts_before_stall m pid step (fault_on m.edition m.board step) refl r h few places)
+    rw machine (acts_before_stall m pid step (fault_on m.edition m.board m.gone step) refl r h few places)
 
 -- ---- where a process may step, not all wait
 zero-left : (n : ℕ) → 0 + n ≡ n
@@ -180,7 +192,7 @@ stalls_few c true is room = rw (sym is) (omega (
 ))
 stalls_few c false is room = rw (sym is) (omega (arith, room))
 
-answers_few : (m : MachineLists) (e : Entry) (o : Option Fault) → o ≡ fault_on m.edition m.board e.step → IsReached m
+answers_few : (m : MachineLists) (e : Entry) (o : Option Fault) → o ≡ fault_on m.edition m.board m.gone e.step → IsReached m
     → refusal_of m.board m.gone e.pid ≡ None → m.board.procs ≤ MOST_PROCS → length m.gone ≡ MOST_PROCS
     → length (answers_on m e o).events ≤ MOST_EVENTS
 answers_few m e None is r h few places =
@@ -190,7 +202,7 @@ answers_few m e (Some f) is r h few places = omega arith
 -- an admitted step has no more events than a list of them holds
 pub turn_few : (m : MachineLists) (e : Entry) → IsReached m → refusal_of m.board m.gone e.pid ≡ None → m.board.procs ≤ MOST_PROCS
     → length m.gone ≡ MOST_PROCS → length (turn_on m e).events ≤ MOST_EVENTS
-turn_few m e r h few places = answers_few m e (fault_on m.edition m.board e.step) refl r h few places
+turn_few m e r h few places = answers_few m e (fault_on m.edition m.board m.gone e.step) refl r h few places
 
 -- ---- the ports of a call that has no fault
 named_by : (ports : ℕ) (cases : List Case) → list_any (λ c. nat_lt ports (port_of c).0) cases ≡ false → AllMade ports cases

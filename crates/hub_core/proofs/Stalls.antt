@@ -2,7 +2,6 @@
 use Rattle.std.proofs.Common.{◌≡◌, ℕ, zero, suc, ◌+◌, ◌==◌, ◌<◌, ◌||◌, ◌&&◌, not, nat_lt, Bool, true, false}
 use Rattle.std.proofs.Common.{cond, List, [], ◌∷◌, ◌++◌, length, refl, ap, ◌∙◌, sym, Some, None, arith}
 use Rattle.std.specs.List.{list_any, list_all, filter_map, range_with_len}
-use Rattle.std.proofs.lemmas.Grind.{common_steps}
 use Rattle.std.proofs.lemmas.List.{length-map}
 use Rattle.hub_base.specs.declared.value.Pid.{Pid}
 use Rattle.hub_base.specs.declared.fault.Fault.TheVariants as fault
@@ -37,7 +36,7 @@ all_wait_on-as s m h =
     let each : list_all (λ q. gone_on m.gone q || open_on m.board.waiting q) (range_with_len 0 s.head.procs)
     ≡ list_all (λ q. has_gone s q || is_waiting s q) (range_with_len 0 s.head.procs) =
     all_in_range _ _ 0 s.head.procs
-    (λ q below. ap (λ b. b || open_on m.board.waiting q) (h.gone q (omega arith)) ∙ ap (λ b. has_gone s q || b) (open_on-as s m q h)) in
+    (λ q below. ap (λ b. b || open_on m.board.waiting q) (h.gone q) ∙ ap (λ b. has_gone s q || b) (open_on-as s m q h)) in
     rw (count-calls s m h, h.procs) (ap (λ b. not (length s.parked == 0) && b) each)
 
 stalled-calls : (ws : List Ticketed) → stalled_events ws ≡ filter_map (λ call. Some (tells call.pid what.Stalled)) (open_calls ws)
@@ -76,7 +75,7 @@ refusal_by : (s : State) (m : MachineLists) (pid : Pid) (below : Bool) → Match
     cond (not below) (Some fault.NoProcess) (cond (gone_on m.gone pid.0) (Some fault.Gone) (cond (open_on m.board.waiting pid.0) (Some fault.Busy) None))
     ≡ cond (not below) (Some fault.NoProcess) (cond (has_gone s pid.0) (Some fault.Gone) (cond (is_waiting s pid.0) (Some fault.Busy) None))
 refusal_by s m pid false h is = refl
-refusal_by s m pid true h is = let less : pid.0 < s.head.procs = grind (arith, common_steps) in rw (h.gone pid.0 less, open_on-as s m pid.0 h) refl
+refusal_by s m pid true h is = rw (h.gone pid.0, open_on-as s m pid.0 h) refl
 
 pub refusal_of-as : (s : State) (m : MachineLists) (pid : Pid) → Matches s m → refusal_of m.board m.gone pid ≡ refusal s pid
 refusal_of-as s m pid h = rw h.procs (refusal_by s m pid (nat_lt pid.0 s.head.procs) h refl)

@@ -4,7 +4,7 @@ use Rattle.std.specs.List.{AllByRecursion}
 use Rattle.hub_base.specs.declared.case.Case.{Case}
 use Rattle.hub_base.specs.declared.value.Pid.{Pid}
 use Rattle.hub_base.specs.Entry.{Entry, Step}
-use Rattle.hub_base.specs.declared.entry.Step.TheVariants.{Make, Call, Close, Exit, Cancel}
+use Rattle.hub_base.specs.declared.entry.Step.TheVariants.{Make, Call, Close, Exit, Cancel, Start, Reopen}
 use Rattle.hub_base.specs.declared.head.Head.{Head}
 use Rattle.hub_base.specs.declared.event.Event.{Event}
 use Rattle.hub_base.specs.declared.fault.Fault.{Fault}
@@ -35,7 +35,7 @@ pub record Matches (s : State) (m : MachineLists) : Type 0 where
   pub calls : open_calls m.board.waiting ≡ s.parked
   pub ports : m.board.ports ≡ map lists_of s.channels
   pub counts : m.counts ≡ map tally_of s.channels
-  pub gone : (q : ℕ) → q < s.head.procs → gone_on m.gone q ≡ has_gone s q
+  pub gone : (q : ℕ) → gone_on m.gone q ≡ has_gone s q
 
 -- the step is a call of these cases
 abbrev pub HasCases : Step → List Case → Type 0
@@ -44,6 +44,8 @@ HasCases (Call given default word) cases = given.items ≡ cases
 HasCases (Close p) cases = ⊥
 HasCases Exit cases = ⊥
 HasCases (Cancel q) cases = ⊥
+HasCases (Start q) cases = ⊥
+HasCases (Reopen p cap) cases = ⊥
 
 -- the entry is the one that opened this call
 abbrev pub IsEntryOf : Option Entry → OpenCall → Type 0
@@ -83,13 +85,15 @@ pub record Tells {S : Type 0} (h : Head) (es : List Entry) (e : Entry) (m : Mach
   pub answers : Answers h es e m told
   pub few : length told ≤ MOST_EVENTS
 
--- the step is a make
-abbrev pub IsMake : Step → Type 0
-IsMake (Make cap) = Unit {0}
-IsMake (Call cases default word) = ⊥
-IsMake (Close p) = ⊥
-IsMake Exit = ⊥
-IsMake (Cancel q) = ⊥
+-- the step is a make or a reopen, which takes memory for its channel
+abbrev pub TakesMemory : Step → Type 0
+TakesMemory (Make cap) = Unit {0}
+TakesMemory (Call cases default word) = ⊥
+TakesMemory (Close p) = ⊥
+TakesMemory Exit = ⊥
+TakesMemory (Cancel q) = ⊥
+TakesMemory (Start q) = ⊥
+TakesMemory (Reopen p cap) = Unit {0}
 
 -- an admitted step, of whose fault nothing is known
 pub record MayAct (m : MachineLists) (pid : Pid) : Type 0 where
@@ -97,13 +101,13 @@ pub record MayAct (m : MachineLists) (pid : Pid) : Type 0 where
   pub admitted : refusal_of m.board m.gone pid ≡ None
   pub steps : m.steps < 2 ^ 32 - 1
 
--- it was told its fault or has taken effect, or was a make that was refused memory and has changed nothing
+-- it was told its fault or has taken effect, or was a make or a reopen that was refused memory and has changed nothing
 pub record Acts {E S : Type 0} (heard : S → List Event → S → Type 0) (room : S → ℕ) (old : MachineLists) (pid : Pid) (step : Step)
     (new : MachineLists) (before after : S) (result : Result (Unit {0}) E) : Type 0 where
   pub machine : OnOk result (new ≡ (acts_on old pid step).machine)
   pub told : OnOk result (Heard heard room before after (acts_on old pid step).events)
-  pub make : OnErr result (IsMake step)
-  pub fine : OnErr result (fault_on old.edition old.board step ≡ None)
+  pub make : OnErr result (TakesMemory step)
+  pub fine : OnErr result (fault_on old.edition old.board old.gone step ≡ None)
   pub unchanged : OnErr result (new ≡ old)
   pub silent : OnErr result (after ≡ before)
 
@@ -116,14 +120,14 @@ pub record Turns (old : MachineLists) (e : Entry) (new : MachineLists) (told : L
   pub ok : (h : Head) (es : List Entry) → Follows h es old → Admits h es e new told
   pub steps : new.steps ≡ old.steps + 1
 
--- memory is refused to a make that meets no fault, and nothing has happened
+-- memory is refused to a make or a reopen that meets no fault, and nothing has happened
 pub record RefusesMake (old : MachineLists) (e : Entry) (new : MachineLists) (told : List Event) : Type 0 where
-  pub make : IsMake e.step
+  pub make : TakesMemory e.step
   pub fine : (h : Head) (es : List Entry) → Follows h es old → IsFine (state h es) e
   pub unchanged : new ≡ old
   pub empty : told ≡ []
 
--- why an entry is refused: memory, which only a make asks for, or because it is not admitted
+-- why an entry is refused: memory, which only a make or a reopen asks for, or because it is not admitted
 abbrev pub RefusesFor : Head → List Entry → Entry → Fault → Type 0
-RefusesFor h es e fault.NoMemory = IsMake e.step × (refusal (state h es) e.pid ≡ None)
+RefusesFor h es e fault.NoMemory = TakesMemory e.step × (refusal (state h es) e.pid ≡ None)
 RefusesFor h es e f = refusal (state h es) e.pid ≡ Some f

@@ -1,11 +1,11 @@
 -- What every hub keeps: its journal is legal, its machine follows the journal, and there is room in
 -- the journal for its places and for the exit of each process.
-use Rattle.std.specs.Prelude.{◌≡◌, ◌≤◌, ◌+◌, ℕ, Bool, true, None, if◌then◌else◌}
+use Rattle.std.specs.Prelude.{◌≡◌, ◌≤◌, ◌+◌, ℕ, Bool, true, None, length, if◌then◌else◌}
 use Rattle.hub_base.specs.Entry.{Entry, Step}
 use Rattle.hub_base.specs.Steps.{refusal}
 use Rattle.hub_base.specs.Head.{IsHead, AreOf}
 use Rattle.hub_base.specs.Reading.{is_exit}
-use Rattle.hub_base.specs.Runs.{kept}
+use Rattle.hub_base.specs.Runs.{kept, state}
 use Rattle.hub_base.specs.Text.{steps_of}
 use Rattle.hub_core.specs.declared.hub.HubOf.TheInside.{Inside}
 use Rattle.hub_core.specs.Follows.{Follows}
@@ -38,8 +38,10 @@ pub record HubKeeps {F : Type 0} (h : Inside F) : Type 0 where
   -- the entries that are no exits are counted
   pub count : h.count ≡ steps_of h.entries.items
   pub within : h.count ≤ h.terms.limit
-  -- the entries that are no exits, the places, and an exit of each process
-  pub room : h.count + h.places + h.terms.head.procs ≤ h.entries.capacity
+  -- the entries, the places, and an exit of each process that has not exited
+  pub room :
+      length h.entries.items + h.places + h.terms.head.procs
+      ≤ h.entries.capacity + length (state h.terms.head h.entries.items).gone
 
 -- where all is to be written out, nothing is kept short
 abbrev pub InForm : Bool → ℕ → Type 0

@@ -2,7 +2,7 @@
 -- of `state terms.head journal`.
 use Rattle.std.specs.Prelude.{◌≡◌, ◌≤◌, ◌<◌, ◌+◌, ◌-◌, ◌⊎◌, ℕ, false, List, [], ◌∷◌, ◌++◌, length, None, Some, Result, IfErr, OnErr, IsErrOf}
 use Rattle.hub_base.specs.Entry.{Entry, Step}
-use Rattle.hub_base.specs.declared.entry.Step.TheVariants.{Make, Call, Close, Exit, Cancel}
+use Rattle.hub_base.specs.declared.entry.Step.TheVariants.{Make, Call, Close, Exit, Cancel, Start, Reopen}
 use Rattle.hub_base.specs.declared.event.Event.{Event}
 use Rattle.hub_base.specs.declared.fault.Fault.{Fault}
 use Rattle.hub_base.specs.declared.fault.Fault.TheVariants as fault
@@ -14,7 +14,7 @@ use Rattle.hub_base.specs.declared.head.Edition.{Edition}
 use Rattle.hub_base.specs.Head.{IsHead, head_of}
 use Rattle.hub_base.specs.Reading.{is_exit}
 use Rattle.hub_base.specs.Text.{steps_of}
-use Rattle.hub_core.specs.Follows.{IsMake, IsFine}
+use Rattle.hub_core.specs.Follows.{TakesMemory, IsFine}
 use Rattle.hub_core.specs.declared.terms.Terms.{Terms}
 use Rattle.hub_core.specs.declared.opening.OpenFault.{OpenFault}
 use Rattle.hub_core.specs.declared.opening.OpenFault.TheVariants as opening_fault
@@ -25,7 +25,7 @@ pub record HubView : Type 0 where
   pub terms : Terms
   -- the admitted entries, in order
   pub journal : List Entry
-  -- how many steps other than makes are not refused memory
+  -- how many calls, closes and cancels are not refused memory
   pub places : ℕ
 
 -- a hub as it lies in memory
@@ -59,6 +59,8 @@ places_after (Call cases default word) places = places - 1
 places_after (Close p) places = places - 1
 places_after Exit places = places
 places_after (Cancel q) places = places - 1
+places_after (Start q) places = places
+places_after (Reopen p cap) places = places
 
 -- the hub with one entry more
 abbrev pub with_entry : Entry → HubView → HubView
@@ -82,13 +84,15 @@ pub record StepsHeard {S : Type 0} (old : HubView) (e : Entry) (new : HubView) (
   pub heard : Heard told now
   pub steps : Steps old e new told
 
--- a growth is asked for by a make, and by a call, a close or a cancel where no place is left
+-- a growth is asked for by a make, a start and a reopen, and by a call, a close or a cancel where no place is left
 abbrev pub Grows : Step → ℕ → Type 0
 Grows (Make cap) places = Unit {0}
 Grows (Call cases default word) places = places ≡ 0
 Grows (Close p) places = places ≡ 0
 Grows Exit places = ⊥
 Grows (Cancel q) places = places ≡ 0
+Grows (Start q) places = Unit {0}
+Grows (Reopen p cap) places = Unit {0}
 
 -- an entry more fits beside the places and an exit of each process, so that the journal need not grow
 abbrev pub HasSpare : HubInMemory → Type 0
@@ -111,7 +115,7 @@ Refuses h e other = ⊥
 -- when a step is refused, and what it leaves of the hub and of its memory; what it tells is said by `Steps`
 pub record StepRules {A : Type 0} (old : HubInMemory) (e : Entry) (new : HubInMemory) (result : Result A Fault) : Type 0 where
   pub refused : IfErr result (λ f. Refuses old.hub e f)
-  pub memory : IsErrOf result fault.NoMemory → HasSpare old → IsMake e.step
+  pub memory : IsErrOf result fault.NoMemory → HasSpare old → TakesMemory e.step
   pub fine : IsErrOf result fault.NoMemory → HasSpare old → IsFine (state_of old.hub) e
   pub unchanged : OnErr result (new.hub ≡ old.hub)
   pub spare : HasSpare old → new.capacity ≡ old.capacity

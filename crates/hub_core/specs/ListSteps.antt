@@ -7,7 +7,7 @@ use Rattle.hub_base.specs.declared.value.Pid.{Pid}
 use Rattle.hub_base.specs.declared.value.Port.{Port}
 use Rattle.hub_base.specs.declared.case.Case.{Case}
 use Rattle.hub_base.specs.Entry.{Entry, Step}
-use Rattle.hub_base.specs.declared.entry.Step.TheVariants.{Make, Call, Close, Exit, Cancel}
+use Rattle.hub_base.specs.declared.entry.Step.TheVariants.{Make, Call, Close, Exit, Cancel, Start, Reopen}
 use Rattle.hub_base.specs.declared.fault.Fault.{Fault}
 use Rattle.hub_base.specs.declared.fault.Fault.TheVariants as fault
 use Rattle.hub_base.specs.declared.event.What.{What}
@@ -19,7 +19,7 @@ use Rattle.hub_base.specs.Head.{most_cases}
 use Rattle.hub_base.specs.Ready.{is_on, port_of}
 use Rattle.hub_base.specs.Steps.{tells, closing_event}
 use Rattle.hub_parts.specs.Records.{Lists, Ticketed}
-use Rattle.hub_parts.specs.Lists.{port_at, with_new, with_port, closed_now, open_calls, parked, ended_by}
+use Rattle.hub_parts.specs.Lists.{port_at, with_new, new_port, with_port, closed_now, open_calls, parked, ended_by}
 use Rattle.hub_core.specs.declared.tally.Tally.{Tally}
 use Rattle.hub_core.specs.declared.select.Chosen.{Chosen}
 use Rattle.hub_core.specs.Records.{MachineLists, no_tally}
@@ -148,6 +148,28 @@ cancels_on m pid q =
       events = tells pid what.Done ∷ tells q what.Cancelled ∷ [];
     }
 
+-- a start of this process
+abbrev pub starts_on : MachineLists → Pid → Pid → ListChange
+starts_on m pid q =
+    record {
+      machine = record {
+        edition = m.edition;
+        board = m.board;
+        gone = slice_set m.gone q.0 false;
+        counts = m.counts;
+        steps = m.steps;
+      };
+      events = tells pid what.Done ∷ [];
+    }
+
+-- a reopen
+abbrev pub reopens_on : MachineLists → Pid → Port → ℕ → ListChange
+reopens_on m pid p cap =
+    record {
+      machine = with_board m (with_port m.board p (new_port cap)) m.counts;
+      events = tells pid what.Done ∷ [];
+    }
+
 -- a step
 abbrev pub effect_on : MachineLists → Pid → Step → ListChange
 effect_on m pid (Make cap) = makes_on m pid cap
@@ -155,6 +177,8 @@ effect_on m pid (Call cases default word) = call_on m pid cases.items default wo
 effect_on m pid (Close p) = closes_on m pid p
 effect_on m pid Exit = exits_on m pid
 effect_on m pid (Cancel q) = cancels_on m pid q
+effect_on m pid (Start q) = starts_on m pid q
+effect_on m pid (Reopen p cap) = reopens_on m pid p cap
 
 -- ---- when all wait
 -- the process has exited
@@ -215,19 +239,26 @@ call_fault_on edition b cases =
     else None
 
 -- why a step has no effect
-abbrev pub fault_on : Edition → Lists → Step → Option Fault
-fault_on edition b (Make cap) =
+abbrev pub fault_on : Edition → Lists → List Bool → Step → Option Fault
+fault_on edition b gone (Make cap) =
     if nat_lt MOST_CAP cap then Some fault.BadCap
     else if nat_le MOST_PORTS (length b.ports) then Some fault.TooManyPorts
     else None
-fault_on edition b (Call cases default word) = call_fault_on edition b cases.items
-fault_on edition b (Close p) =
+fault_on edition b gone (Call cases default word) = call_fault_on edition b cases.items
+fault_on edition b gone (Close p) =
     if is_unmade_on b p then Some fault.NoPort
     else if p.0 == 0 then Some fault.NilClose
     else if (port_at b p).closed then Some fault.AlreadyClosed
     else None
-fault_on edition b Exit = None
-fault_on edition b (Cancel q) = if open_on b.waiting q.0 then None else Some fault.NotParked
+fault_on edition b gone Exit = None
+fault_on edition b gone (Cancel q) = if open_on b.waiting q.0 then None else Some fault.NotParked
+fault_on edition b gone (Start q) = if gone_on gone q.0 then None else Some fault.NotGone
+fault_on edition b gone (Reopen p cap) =
+    if is_unmade_on b p then Some fault.NoPort
+    else if nat_lt MOST_CAP cap then Some fault.BadCap
+    else if p.0 == 0 then Some fault.NilClose
+    else if (port_at b p).closed && (length (port_at b p).buffer == 0) then None
+    else Some fault.InUse
 
 -- ---- one admitted entry
 -- the process is told why its step has no effect
@@ -240,7 +271,7 @@ acts_by m pid step None = effect_on m pid step
 acts_by m pid step (Some f) = told_fault m pid f
 
 abbrev pub acts_on : MachineLists → Pid → Step → ListChange
-acts_on m pid step = acts_by m pid step (fault_on m.edition m.board step)
+acts_on m pid step = acts_by m pid step (fault_on m.edition m.board m.gone step)
 
 -- the fault, or else what the step does and the stall rule
 abbrev pub answers_on : MachineLists → Entry → Option Fault → ListChange
@@ -257,7 +288,7 @@ counted n c = record { machine = with_steps (n + 1) c.machine; events = c.events
 
 -- an admitted entry
 abbrev pub turn_on : MachineLists → Entry → ListChange
-turn_on m e = counted m.steps (answers_on m e (fault_on m.edition m.board e.step))
+turn_on m e = counted m.steps (answers_on m e (fault_on m.edition m.board m.gone e.step))
 
 -- why an entry is not admitted
 abbrev pub refusal_of : Lists → List Bool → Pid → Option Fault

@@ -50,6 +50,8 @@ case_count (brief.Make pid cap) = 0
 case_count (brief.Close pid p) = 0
 case_count (brief.Exit pid) = 0
 case_count (brief.Cancel pid q) = 0
+case_count (brief.Start pid q) = 0
+case_count (brief.Reopen pid p cap) = 0
 
 -- where these begin among those of all entries
 abbrev pub first_of : Brief → ℕ
@@ -60,6 +62,8 @@ first_of (brief.Make pid cap) = 0
 first_of (brief.Close pid p) = 0
 first_of (brief.Exit pid) = 0
 first_of (brief.Cancel pid q) = 0
+first_of (brief.Start pid q) = 0
+first_of (brief.Reopen pid p cap) = 0
 
 -- they begin there
 abbrev pub BeginsAt : ℕ → Brief → Type 0
@@ -79,6 +83,8 @@ entry_of (brief.Make pid cap) cases = by pid.0 (step.Make cap)
 entry_of (brief.Close pid p) cases = by pid.0 (step.Close p)
 entry_of (brief.Exit pid) cases = by pid.0 step.Exit
 entry_of (brief.Cancel pid q) cases = by pid.0 (step.Cancel q)
+entry_of (brief.Start pid q) cases = by pid.0 (step.Start q)
+entry_of (brief.Reopen pid p cap) cases = by pid.0 (step.Reopen p cap)
 
 -- the cases of the entry, where they are not kept with it
 abbrev pub cases_beside : Entry → Brief → List Case

@@ -10,11 +10,12 @@ use Rattle.hub_base.specs.declared.fault.Fault.{Fault}
 use Rattle.hub_base.specs.declared.fault.Fault.TheVariants as fault
 use Rattle.hub_base.specs.State.{Channel, channel_at, buffer_of}
 use Rattle.hub_base.specs.Steps.{refusal}
-use Rattle.hub_base.specs.Runs.{events, kept, keeps, moves}
-use Rattle.hub_base.specs.Values.{sent_values, received_values}
+use Rattle.hub_base.specs.Runs.{events, kept, keeps, moves, state}
+use Rattle.hub_base.specs.Values.{sent_values, received_values, turns_after}
+use Rattle.hub_base.specs.Head.{has_lives}
 use Rattle.hub_base.specs.Reading.{is_exit}
 use Rattle.hub_base.specs.Text.{steps_of}
-use Rattle.hub_laws.specs.AfterClose.{AfterCloseLaw}
+use Rattle.hub_laws.specs.AfterClose.{AfterCloseLaw, opens_again}
 use Rattle.hub_core.specs.declared.terms.Terms.{Terms}
 use Rattle.hub_core.specs.declared.runs.ListFault.{ListFault}
 use Rattle.hub_core.specs.declared.runs.ListFault.TheVariants.{Open, At}
@@ -35,10 +36,15 @@ abbrev pub KeepsValues : Head → List Entry → HubView → Type 0
 KeepsValues h es hub = (p : Port) (c : Channel) → channel_at (state_of hub) p ≡ Some c
     → received_values h es p ++ buffer_of c ≡ sent_values h es p
 
--- after each close in the list no send completes on the port, and receives drain it
+-- after each close in the list, until the port is opened again, no send completes on it, and receives drain it
 abbrev pub ClosesForGood : Head → List Entry → Type 0
 ClosesForGood h es = (before : List Entry) (pid : Pid) (port : Port) (later : List Entry)
     → es ≡ before ++ close_of pid port ∷ later → AfterCloseLaw h before pid port later
+
+-- in an edition without reopens no port is opened again
+abbrev pub NeverOpens : Head → List Entry → Type 0
+NeverOpens h es = has_lives h.edition ≡ false → (before later : List Entry) (port : Port)
+    → es ≡ before ++ later → opens_again port (turns_after (state h before) later) ≡ false
 
 -- at entry i, which is no exit, the journal holds `limit` entries that are none
 pub record IsFullAt (t : Terms) (es : List Entry) (i : ℕ) : Type 0 where

@@ -2,7 +2,7 @@
 
 ghost use Rattle.std.specs.Prelude.{◌≡◌, ◌≤◌, ◌<◌, ◌+◌, ◌∷◌, ◌++◌, [], false, true, length, OnOk, OnErr};
 ghost use Rattle.hub_base.specs.declared.event.What.TheVariants as what;
-ghost use Rattle.hub_parts.specs.Lists.{ended_by, with_new};
+ghost use Rattle.hub_parts.specs.Lists.{IsMade, ended_by, new_port, with_new, with_port};
 ghost use Rattle.hub_core.specs.Prelude.{AllMade, MOST_EVENTS, tells};
 ghost use Rattle.hub_core.specs.ListSteps.{IsCalled, calls_on, count_gone, open_on};
 ghost use Rattle.hub_core.specs.ListKeeps.{PortsKeep};
@@ -13,11 +13,13 @@ ghost use Rattle.hub_core.specs.Follows.{Acts, MayAct};
 use crate::closing::close;
 use crate::exited::Exited;
 use crate::firing::{Caller, CountedBoard};
-use crate::refusals::{call_fault, cancel_fault, close_fault, make_fault};
+use crate::refusals::{
+    call_fault, cancel_fault, close_fault, make_fault, reopen_fault, start_fault,
+};
 use crate::select::{choose, park_or_default};
 use hub_base::{
-    CaseSlice, Edition, EntryRef, Event, Fault, Hears, MOST_PORTS, MOST_PROCS, NoMemory, Pid, Step,
-    What,
+    CaseSlice, Edition, EntryRef, Event, Fault, Hears, MOST_PORTS, MOST_PROCS, NoMemory, Pid, Port,
+    Step, What,
 };
 
 /// The event that tells a process this.
@@ -52,6 +54,28 @@ impl CountedBoard {
         let port = self.board.make(cap)?;
         self.tallies.add();
         events.hear(tells(pid, What::Made(port)));
+        Ok(())
+    }
+
+    /// Opens a port again. Where memory is refused nothing changes.
+    #[inline(never)]
+    fn reopen<E: Hears>(
+        &mut self,
+        pid: Pid,
+        port: Port,
+        cap: u32,
+        events: &mut E,
+    ) -> Result<(), NoMemory>
+        requires made { IsMade self.old.board port }
+        requires room { 0 < E.room events.old }
+        ensures board { OnOk result (self.new.board ≡ with_port self.old.board port (new_port cap)) }
+        ensures counts { OnOk result (self.new.tallies ≡ self.old.tallies) }
+        ensures told { OnOk result (Heard E.heard E.room events.old events.new (tells pid what.Done ∷ [])) }
+        ensures unchanged { OnErr result (self.new ≡ self.old) }
+        ensures silent { OnErr result (events.new ≡ events.old) }
+    {
+        self.board.reopen(port, cap)?;
+        events.hear(tells(pid, What::Done));
         Ok(())
     }
 
@@ -157,6 +181,17 @@ impl CountedBoard {
             }
             Step::Cancel(other) => match cancel_fault(board, *other) {
                 None => self.cancel(pid, *other, events),
+                Some(fault) => tell_fault(pid, fault, events),
+            },
+            Step::Start(other) => match start_fault(exited, *other) {
+                None => {
+                    exited.remove(*other);
+                    events.hear(tells(pid, What::Done));
+                }
+                Some(fault) => tell_fault(pid, fault, events),
+            },
+            Step::Reopen { port, cap } => match reopen_fault(board, *port, *cap) {
+                None => return self.reopen(pid, *port, *cap, events),
                 Some(fault) => tell_fault(pid, fault, events),
             },
         }

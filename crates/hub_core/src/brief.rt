@@ -58,6 +58,15 @@ pub(crate) enum Brief {
         pid: Pid,
         other: Pid,
     },
+    Start {
+        pid: Pid,
+        other: Pid,
+    },
+    Reopen {
+        pid: Pid,
+        port: Port,
+        cap: u32,
+    },
 }
 
 const _: () = prove!(size_of::<Brief>() == 16);
@@ -136,6 +145,8 @@ fn brief_of(entry: &EntryRef<'_>, first: u32) -> Brief
         Step::Close(port) => Brief::Close { pid, port },
         Step::Exit => Brief::Exit { pid },
         Step::Cancel(other) => Brief::Cancel { pid, other },
+        Step::Start(other) => Brief::Start { pid, other },
+        Step::Reopen { port, cap } => Brief::Reopen { pid, port, cap },
     }
 }
 
@@ -228,6 +239,8 @@ impl Brief {
             Brief::Close { pid, .. } => pid,
             Brief::Exit { pid } => pid,
             Brief::Cancel { pid, .. } => pid,
+            Brief::Start { pid, .. } => pid,
+            Brief::Reopen { pid, .. } => pid,
         }
     }
 
@@ -237,8 +250,12 @@ impl Brief {
     {
         match self {
             Brief::Send { .. } | Brief::Recv { .. } | Brief::Call { .. } => true,
-            Brief::Make { .. } | Brief::Close { .. } | Brief::Exit { .. } | Brief::Cancel { .. } =>
-                { false }
+            Brief::Make { .. }
+            | Brief::Close { .. }
+            | Brief::Exit { .. }
+            | Brief::Cancel { .. }
+            | Brief::Start { .. }
+            | Brief::Reopen { .. } => false,
         }
     }
 
@@ -306,6 +323,14 @@ impl Brief {
             Brief::Cancel { pid, other } => Entry {
                 pid,
                 step: Step::Cancel(other),
+            },
+            Brief::Start { pid, other } => Entry {
+                pid,
+                step: Step::Start(other),
+            },
+            Brief::Reopen { pid, port, cap } => Entry {
+                pid,
+                step: Step::Reopen { port, cap },
             },
         }
     }

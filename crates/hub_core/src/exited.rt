@@ -44,4 +44,15 @@ impl Exited {
         self.gone[pid.0 as usize] = true;
         self.count += 1;
     }
+
+    /// The process, which had exited, is started again.
+    pub(crate) fn remove(&mut self, pid: Pid)
+        requires below { pid.0 < MOST_PROCS }
+        requires some { 0 < self.old.count }
+        ensures gone { self.new.gone ≡ slice_set self.old.gone pid.0 false }
+        ensures count { self.new.count + 1 ≡ self.old.count }
+    {
+        self.gone[pid.0 as usize] = false;
+        self.count -= 1;
+    }
 }

@@ -30,7 +30,7 @@ use std::marker::{Model, PhantomData};
 pub struct HubOf<F: Form> {
     /// What it was opened with.
     pub(crate) terms: Terms,
-    /// How many steps other than makes are not refused memory.
+    /// How many calls, closes and cancels are not refused memory.
     pub(crate) places: u32,
     /// How many entries of the journal are no exits.
     pub(crate) count: u32,
@@ -128,8 +128,8 @@ impl<F: Form> HubOf<F> {
         Ok(())
     }
 
-    /// Makes room in the journal: after `Ok` the next `k` steps other than makes are not refused memory,
-    /// and in a `Hub` take none. After a refusal the hub is as before.
+    /// Makes room in the journal: after `Ok` the next `k` calls, closes and cancels are not refused
+    /// memory, and in a `Hub` take none. After a refusal the hub is as before.
     pub fn reserve(&mut self, k: u32) -> Result<(), NoMemory>
         ensures ok { OnOk result (
             self.new.memory.hub ≡ record self.old.memory.hub { places = max self.old.memory.hub.places k }) }
@@ -189,7 +189,7 @@ impl<F: Form> HubOf<F> {
         self.terms
     }
 
-    /// How many steps other than makes are not refused memory; in a `Hub` they take none.
+    /// How many calls, closes and cancels are not refused memory; in a `Hub` they take none.
     pub fn places(&self) -> u32
         ensures { result ≡ self.now.memory.hub.places }
     {

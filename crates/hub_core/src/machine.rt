@@ -11,7 +11,7 @@ ghost use Rattle.hub_core.specs.Prelude.{Entry, Head, IsHead, MOST_EVENTS, refus
 ghost use Rattle.hub_core.specs.Hearing.{Heard};
 ghost use Rattle.hub_core.specs.ListSteps.{refusal_of, turn_on};
 ghost use Rattle.hub_core.specs.Looks.{look_at, value_at};
-ghost use Rattle.hub_core.specs.Follows.{Follows, Admits, Answers, Tells, IsMake, IsFine, RefusesFor, Turns, RefusesMake};
+ghost use Rattle.hub_core.specs.Follows.{Follows, Admits, Answers, Tells, TakesMemory, IsFine, RefusesFor, Turns, RefusesMake};
 
 use crate::admitted::tells;
 use crate::exited::Exited;
@@ -110,7 +110,7 @@ impl Machine {
     /// order of arrival.
     ///
     /// Refused by `NoProcess`, `Gone` or `Busy`, tested in this order, where the process does not
-    /// exist, has exited or has an open call, and by `NoMemory` where a make was refused a growth.
+    /// exist, has exited or has an open call, and by `NoMemory` where a make or a reopen was refused a growth.
     /// The machine is then as before, and `events` are empty.
     pub fn step(&mut self, entry: &EntryRef<'_>, events: &mut Events) -> Result<(), Fault>
         requires { self.old.steps < 2 ^ 32 - 1 }
@@ -121,7 +121,7 @@ impl Machine {
 
         ensures refused { IfErr result (λ f. (h : Head) (es : List Entry) → Follows h es self.old
             → RefusesFor h es entry.now f) }
-        ensures memory { IsErrOf result Fault.NoMemory → IsMake entry.now.step }
+        ensures memory { IsErrOf result Fault.NoMemory → TakesMemory entry.now.step }
         ensures fine { IsErrOf result Fault.NoMemory → (h : Head) (es : List Entry)
             → Follows h es self.old → IsFine (state h es) entry.now }
         ensures unchanged { OnErr result (self.new ≡ self.old) }
@@ -138,8 +138,8 @@ impl Machine {
     }
 
     /// Makes a step, and tells what follows: a refusal by `NoProcess`, `Gone` or `Busy` is told as
-    /// one event. Memory is refused to a make alone; the machine is then as before, and `events` are
-    /// empty.
+    /// one event. Memory is refused to a make or a reopen alone; the machine is then as before, and
+    /// `events` are empty.
     pub fn answer(&mut self, entry: &EntryRef<'_>, events: &mut Events) -> Result<(), NoMemory>
         requires { self.old.steps < 2 ^ 32 - 1 }
 
@@ -147,7 +147,7 @@ impl Machine {
             → Answers h es entry.now self.new events.new.items) }
         ensures steps { OnOk result (self.new.steps ≤ self.old.steps + 1) }
 
-        ensures make { OnErr result (IsMake entry.now.step) }
+        ensures make { OnErr result (TakesMemory entry.now.step) }
         ensures fine { OnErr result ((h : Head) (es : List Entry) → Follows h es self.old
             → IsFine (state h es) entry.now) }
         ensures unchanged { OnErr result (self.new ≡ self.old) }
@@ -178,7 +178,7 @@ impl Machine {
             → Tells h es entry.now self.new (E.heard events.old) events.new) }
         ensures steps { OnOk result (self.new.steps ≤ self.old.steps + 1) }
 
-        ensures make { OnErr result (IsMake entry.now.step) }
+        ensures make { OnErr result (TakesMemory entry.now.step) }
         ensures fine { OnErr result ((h : Head) (es : List Entry) → Follows h es self.old
             → IsFine (state h es) entry.now) }
         ensures unchanged { OnErr result (self.new ≡ self.old) }

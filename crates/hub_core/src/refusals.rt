@@ -1,8 +1,9 @@
 //! Why a step is not admitted, and the faults that are answers to admitted steps.
 
-ghost use Rattle.std.specs.Prelude.{◌≡◌, ◌≤◌, ◌<◌};
+ghost use Rattle.std.specs.Prelude.{◌≡◌, ◌≤◌, ◌<◌, Bool, List};
+ghost use Rattle.hub_parts.specs.Records.{Lists};
 ghost use Rattle.std.specs.List.{list_any};
-ghost use Rattle.hub_base.specs.declared.entry.Step.TheVariants.{Make, Close, Cancel};
+ghost use Rattle.hub_base.specs.declared.entry.Step.TheVariants.{Make, Close, Cancel, Start, Reopen};
 ghost use Rattle.hub_core.specs.Prelude.{Edition, port_of};
 ghost use Rattle.hub_core.specs.ListSteps.{refusal_of, fault_on, call_fault_on, is_unmade_on};
 
@@ -62,7 +63,7 @@ pub(crate) fn call_fault(edition: Edition, board: &Board, cases: &[Case]) -> Opt
 
 /// The fault of a make.
 pub(crate) fn make_fault(board: &Board, cap: u32) -> Option<Fault>
-    ensures { (edition : Edition) → result ≡ fault_on edition board.now (Make cap) }
+    ensures { (edition : Edition) (gone : List Bool) → result ≡ fault_on edition board.now gone (Make cap) }
 {
     if cap > MOST_CAP {
         Some(Fault::BadCap)
@@ -75,7 +76,7 @@ pub(crate) fn make_fault(board: &Board, cap: u32) -> Option<Fault>
 
 /// The fault of a close.
 pub(crate) fn close_fault(board: &Board, port: Port) -> Option<Fault>
-    ensures { (edition : Edition) → result ≡ fault_on edition board.now (Close port) }
+    ensures { (edition : Edition) (gone : List Bool) → result ≡ fault_on edition board.now gone (Close port) }
 {
     if is_unmade(board, port) {
         Some(Fault::NoPort)
@@ -90,11 +91,42 @@ pub(crate) fn close_fault(board: &Board, port: Port) -> Option<Fault>
 
 /// The fault of a cancel.
 pub(crate) fn cancel_fault(board: &Board, other: Pid) -> Option<Fault>
-    ensures { (edition : Edition) → result ≡ fault_on edition board.now (Cancel other) }
+    ensures { (edition : Edition) (gone : List Bool) → result ≡ fault_on edition board.now gone (Cancel other) }
 {
     if board.open(other) {
         None
     } else {
         Some(Fault::NotParked)
+    }
+}
+
+/// The fault of a start.
+pub(crate) fn start_fault(exited: &Exited, other: Pid) -> Option<Fault>
+    ensures { (edition : Edition) (board : Lists) → result ≡ fault_on edition board exited.now.gone (Start other) }
+{
+    if (other.0 as usize) < MOST_PROCS && exited.has(other) {
+        None
+    } else {
+        Some(Fault::NotGone)
+    }
+}
+
+/// The fault of a reopen.
+pub(crate) fn reopen_fault(board: &Board, port: Port, cap: u32) -> Option<Fault>
+    ensures { (edition : Edition) (gone : List Bool) → result ≡ fault_on edition board.now gone (Reopen port cap) }
+{
+    if is_unmade(board, port) {
+        return Some(Fault::NoPort);
+    }
+    if cap > MOST_CAP {
+        return Some(Fault::BadCap);
+    }
+    if port.0 == 0 {
+        return Some(Fault::NilClose);
+    }
+    if board.closed(port) && board.len(port) == 0 {
+        None
+    } else {
+        Some(Fault::InUse)
     }
 }

@@ -3,7 +3,7 @@
 ghost use Rattle.std.specs.Prelude.{◌≡◌, ℕ, true, IfOk, IfErr, OnOk};
 ghost use Rattle.hub_core.specs.Prelude.{AreOf, OnceLaw, head_of, is_of};
 ghost use Rattle.hub_core.specs.HubView.{terms_of};
-ghost use Rattle.hub_core.specs.RunsTo.{RunsTo, TellsOn, StopsAt, KeepsValues, ClosesForGood, RefusesRun, IsFullAt};
+ghost use Rattle.hub_core.specs.RunsTo.{RunsTo, TellsOn, StopsAt, KeepsValues, ClosesForGood, NeverOpens, RefusesRun, IsFullAt};
 
 use crate::admitted::tells;
 use crate::{Hub, OpenFault};
@@ -68,8 +68,11 @@ pub fn run(
     // Each admitted call completes at most one of its cases, once.
     ensures at_most_one_case { OnOk result (OnceLaw (head_of edition procs) entries.now) }
 
-    // After a close no send completes on the port, and receives drain it, then learn the close.
+    // After a close, until the port is opened again, no send completes on it, and receives drain it, then learn the close.
     ensures after_close { OnOk result (ClosesForGood (head_of edition procs) entries.now) }
+
+    // In the first two editions no port is opened again.
+    ensures never { OnOk result (NeverOpens (head_of edition procs) entries.now) }
 
     // The journal was never full at an entry that is no exit.
     ensures never_full { OnOk result ((i : ℕ) → ¬ IsFullAt (terms_of edition procs limit) entries.now i) }

@@ -1,6 +1,6 @@
 //! Entries that are kept short.
 
-ghost use Rattle.std.specs.Prelude.{◌≡◌, ◌<◌, ◌+◌, ◌++◌, ◌∷◌, [], IfOk, OnOk, Some, false, length, slice_get};
+ghost use Rattle.std.specs.Prelude.{◌≡◌, ◌<◌, ◌+◌, ◌++◌, ◌∷◌, [], IfOk, OnErr, OnOk, Some, false, length, slice_get};
 ghost use Rattle.std.specs.Option.{option_map, option_map_or};
 ghost use Rattle.hub_base.specs.Values.{cases_at};
 ghost use Rattle.hub_laws.specs.Once.{is_call};
@@ -55,9 +55,11 @@ impl ShortEntries {
         ShortEntries { briefs, cases }
     }
 
-    /// Appends an entry. `Err` where memory was refused; 2^32 cases or more are taken for that.
+    /// Appends an entry. `Err` where memory was refused, and the entries are then as before; 2^32 cases or more are
+    /// taken for that.
     pub fn push(&mut self, entry: &EntryRef<'_>) -> Result<(), AllocError>
-        ensures { OnOk result (self.new ≡ self.old ++ entry.now ∷ []) }
+        ensures ok { OnOk result (self.new ≡ self.old ++ entry.now ∷ []) }
+        ensures err { OnErr result (self.new ≡ self.old) }
     {
         self.briefs.reserve(1)?;
         keep(&mut self.briefs, &mut self.cases, entry)

@@ -21,12 +21,12 @@ fn count_after(step: &StepRef<'_>, count: u32) -> u32
     if step.is_exit() { count } else { count + 1 }
 }
 
-/// How many steps other than makes are not refused memory after this one.
+/// How many calls, closes and cancels are not refused memory after this step.
 fn places_after(step: &StepRef<'_>, places: u32) -> u32
     ensures { result ≡ places_after step.now places }
 {
     match step {
-        Step::Make(_) | Step::Exit => places,
+        Step::Make(_) | Step::Exit | Step::Start(_) | Step::Reopen { .. } => places,
         Step::Call { .. } | Step::Close(_) | Step::Cancel(_) => places.saturating_sub(1),
     }
 }
@@ -36,7 +36,7 @@ fn grows(step: &StepRef<'_>, places: u32) -> bool
     ensures { IsTrue result ↔ Grows step.now places }
 {
     match step {
-        Step::Make(_) => true,
+        Step::Make(_) | Step::Start(_) | Step::Reopen { .. } => true,
         Step::Call { .. } | Step::Close(_) | Step::Cancel(_) => places == 0,
         Step::Exit => false,
     }
@@ -78,8 +78,8 @@ impl<F: Form> HubOf<F> {
     ///
     /// Refused by `JournalFull`, `NoProcess`, `Gone`, `Busy` and `NoMemory` alone, tested in this
     /// order; the hub is then as before. An exit is never refused by `JournalFull` or `NoMemory`,
-    /// and by `NoMemory` only a make is, or a step for which no place is left. All other faults are
-    /// answers, and their entries are kept.
+    /// and by `NoMemory` only a make, a start or a reopen is, or a step for which no place is left.
+    /// All other faults are answers, and their entries are kept.
     pub fn step(&mut self, entry: Entry) -> Result<Events, Fault>
         requires fits { is_of self.old.memory.hub.terms.head.edition entry.step ≡ true }
         ensures ok { IfOk result (λ events. Steps self.old.memory.hub entry self.new.memory.hub events.items) }

@@ -5,8 +5,8 @@ ghost use Rattle.hub_core.specs.Prelude.{found_closed, port_changed_by, port_tou
 
 use hub_base::{Outcome, Port, Step, StepRef, What};
 
-/// The one port whose channel a step with this answer may have changed: the port that was made or
-/// closed, or that of the case that fired. `None` for any other answer, as of a call that waits or
+/// The one port whose channel a step with this answer may have changed: the port that was made,
+/// closed or opened again, or that of the case that fired. `None` for any other answer, as of a call that waits or
 /// takes its default, of an exit and of a fault.
 pub fn port_touched(step: &StepRef<'_>, answer: &What) -> Option<Port>
     ensures { result ≡ port_touched_by step.now answer.now }
@@ -18,6 +18,7 @@ pub fn port_touched(step: &StepRef<'_>, answer: &What) -> Option<Port>
             Some(case.port())
         }
         (Step::Close(port), What::Done) => Some(*port),
+        (Step::Reopen { port, .. }, What::Done) => Some(*port),
         _ => None,
     }
 }

@@ -1,34 +1,37 @@
 -- The text of a chapter is not longer than a reader takes.
-use Rattle.hub_laws.proofs.Prelude.{◌≡◌, Bool, true, false, List, [], ◌∷◌, ◌++◌, ap, ℕ, zero, suc, ◌+◌, ◌≤◌, ◌<◌, arith, length, map, cond}
+use Rattle.hub_laws.proofs.Prelude.{◌≡◌, ◌∙◌, refl, Bool, true, false, List, [], ◌∷◌, ◌++◌, ap, ℕ, zero, suc, ◌+◌, ◌≤◌, ◌<◌, arith, length, map, cond}
 use Rattle.hub_laws.proofs.Prelude.{length-append, one_step, steps_of, subst, Entry, Head, Case, Send, Recv, Step, Make, Call, Close, Exit}
-use Rattle.hub_laws.proofs.Prelude.{Cancel, Value, Port, Channel, OpenCall, State, state, buffer_of}
+use Rattle.hub_laws.proofs.Prelude.{Cancel, Start, Reopen, Value, Port, Channel, OpenCall, State, state, buffer_of}
 use Rattle.std.specs.Prelude.{codes, decimal, ◌*◌}
 use Rattle.std.specs.List.{AllByRecursion, flat_map, join_with_byte}
 use Rattle.std.proofs.lemmas.Fmt.{length-decimal-le}
+use Rattle.std.proofs.lemmas.List.Elements.{filter-append}
 use Rattle.std.proofs.lemmas.Grind.{flat_map-append}
 use Rattle.hex.specs.Hex.{lower_digits}
 use Rattle.hex.proofs.HexLemmas.{length-encode_with}
 use Rattle.hub_base.specs.declared.head.Edition.{Edition}
-use Rattle.hub_base.specs.declared.head.Edition.TheVariants.{One, Two}
+use Rattle.hub_base.specs.declared.head.Edition.TheVariants.{One, Two, Three}
 use Rattle.hub_base.specs.Content.{Content, IsContent}
 use Rattle.hub_base.specs.Content.Content.{Num, Bytes}
 use Rattle.hub_base.specs.Value.{IsValue, content, field_of, value_field}
 use Rattle.hub_base.specs.Lines.{line, call_fields, case_field, default_field, select_fields, step_fields}
 use Rattle.hub_base.specs.Head.{IsHead}
-use Rattle.hub_base.specs.Reading.{head_lines, header}
+use Rattle.hub_base.specs.Reading.{head_lines, header, is_exit}
 use Rattle.hub_base.specs.Text.{Fits, CaseFits, CallFits, StepFits, IsText}
 use Rattle.hub_base.specs.Notation.{exit, close}
 use Rattle.hub_laws.specs.Journals.{IsLegal}
+use Rattle.hub_laws.specs.Limits.{all_starts, is_start}
 use Rattle.hub_laws.proofs.Limits.{limits-law}
 use Rattle.hub_laws.proofs.States.{count-law}
 use Rattle.hub_laws.proofs.Rules.{state-sound}
 use Rattle.hub_core.specs.HubView.{HubView}
+use Rattle.hub_core.proofs.Reached.{steps-length}
 use Rattle.hub_chapters.specs.Checkpoint.{checkpoint, send_again, port_again, ports_again, call_again, exited}
 use Rattle.hub_chapters.proofs.Checkpoints.{checkpoint-law}
 use Rattle.hub_base.specs.declared.limits.TheConstants.{GREATEST_PID, GREATEST_PORT, MOST_VALUE_BYTES}
 use Rattle.hub_base.specs.Values.{cases_or}
 use Rattle.hub_cut.specs.declared.limits.TheConstants.{LINE_BYTES, CASE_BYTES, CHECKPOINT_BYTES, CHAPTER_BYTES, MOST_LINE_BYTES}
-use Rattle.hub_cut.specs.ChapterText.{most_line, most_lines, counted, counted_in, FitsText}
+use Rattle.hub_cut.specs.ChapterText.{most_line, most_lines, counted, counted_in, FitLines, FitsText}
 use Rattle.hub_cut.proofs.Parts.{procs_same, steps-append}
 
 -- Fields
@@ -110,8 +113,28 @@ step_size ed e fits = by e.step fits.step
     by (Close p) few = omega (arith, port_size p few)
     by Exit few = omega arith
     by (Cancel q) few = omega (arith, pid_size q.0 few)
+    by (Start q) few = omega (arith, pid_size q.0 few)
+    by (Reopen p cap) few =
+        let l : length (decimal cap) ≤ 10 = length-decimal-le 10 cap (omega arith) (omega (arith, few.1)) (omega (arith, few.1)) in
+        omega (arith, l, port_size p few.0)
 
-pub line_fits : (ed : Edition) (e : Entry) → Fits ed e → length (line e) ≤ most_line e
+-- so many bytes the line of an entry has at most, and no fewer are kept for it
+abbrev own_line : Entry → ℕ
+own_line e = LINE_BYTES + CASE_BYTES * length (cases_or e.step [])
+
+line_kept : (e : Entry) → own_line e ≤ most_line e
+line_kept e = by e.step
+  where
+    by : (s : Step) → own_line (record { pid = e.pid; step = s }) ≤ most_line (record { pid = e.pid; step = s })
+    by (Make cap) = omega arith
+    by (Call cases default word) = omega arith
+    by (Close p) = omega arith
+    by Exit = omega arith
+    by (Cancel q) = omega arith
+    by (Start q) = omega arith
+    by (Reopen p cap) = omega arith
+
+line_fits : (ed : Edition) (e : Entry) → Fits ed e → length (line e) ≤ own_line e
 unfolding fields_size
 line_fits ed e fits =
     let fields : List (List ℕ) = decimal e.pid.0 ∷ step_fields e.step in
@@ -119,7 +142,7 @@ line_fits ed e fits =
 
 lines_fit : (ed : Edition) (es : List Entry) → AllByRecursion (Fits ed) es → length (flat_map line es) ≤ most_lines es
 lines_fit ed [] fits = omega arith
-lines_fit ed (e ∷ es) fits = omega (arith, length-append (line e) (flat_map line es), line_fits ed e fits.0, lines_fit ed es fits.1)
+lines_fit ed (e ∷ es) fits = omega (arith, length-append (line e) (flat_map line es), line_fits ed e fits.0, line_kept e, lines_fit ed es fits.1)
 
 -- A checkpoint
 
@@ -188,9 +211,57 @@ pub checkpoint_fits : (h : Head) (es : List Entry) → IsHead h → AllByRecursi
     length (flat_map line (checkpoint (state h es))) ≤ CHECKPOINT_BYTES
 checkpoint_fits h es head fits = omega (arith, checkpoint_lines h es head fits, lines_fit h.edition (checkpoint (state h es)) fits)
 
+-- it has no start
+
+pub starts-append : (xs ys : List Entry) → length (all_starts (xs ++ ys)) ≡ length (all_starts xs) + length (all_starts ys)
+starts-append xs ys = ap length (filter-append (λ (e : Entry). is_start e.step) xs ys) ∙ length-append (all_starts xs) (all_starts ys)
+
+sends_no_start : (n : ℕ) (vs : List Value) → length (all_starts (map (send_again n) vs)) ≡ 0
+sends_no_start n [] = refl
+sends_no_start n (v ∷ vs) = sends_no_start n vs
+
+close_no_start : (n : ℕ) (b : Bool) → length (all_starts (cond b (close 0 n ∷ []) [])) ≡ 0
+close_no_start n true = refl
+close_no_start n false = refl
+
+port_no_start : (n : ℕ) (c : Channel) → length (all_starts (port_again n c)) ≡ 0
+port_no_start n c =
+    let sends : List Entry = map (send_again n) (buffer_of c) in
+    let closes : List Entry = cond c.closed (close 0 n ∷ []) [] in
+    omega (arith, starts-append sends closes, sends_no_start n (buffer_of c), close_no_start n c.closed)
+
+ports_no_start : (n : ℕ) (cs : List Channel) → length (all_starts (ports_again n cs)) ≡ 0
+ports_no_start n [] = refl
+ports_no_start n (c ∷ cs) =
+    omega (arith, starts-append (port_again n c) (ports_again (n + 1) cs), port_no_start n c, ports_no_start (n + 1) cs)
+
+exits_no_start : (qs : List ℕ) → length (all_starts (map exit qs)) ≡ 0
+exits_no_start [] = refl
+exits_no_start (q ∷ qs) = exits_no_start qs
+
+calls_no_start : (calls : List OpenCall) → length (all_starts (map call_again calls)) ≡ 0
+calls_no_start [] = refl
+calls_no_start (c ∷ cs) = calls_no_start cs
+
+pub checkpoint-no_start : (s : State) → length (all_starts (checkpoint s)) ≡ 0
+checkpoint-no_start s =
+    let ports : List Entry = ports_again 1 s.channels in
+    let exits : List Entry = map exit (exited s) in
+    omega (
+      arith,
+      starts-append (ports ++ exits) (map call_again s.parked),
+      starts-append ports exits,
+      ports_no_start 1 s.channels,
+      exits_no_start (exited s),
+      calls_no_start s.parked,
+    )
+
+pub checkpoint_lines_fit : (s : State) → length (flat_map line (checkpoint s)) ≤ CHECKPOINT_BYTES → FitLines (checkpoint s) 0
+checkpoint_lines_fit s lines = omega (arith, lines, checkpoint-no_start s, steps-length (checkpoint s))
+
 -- A journal that goes on
 
-pub longer_by : (es : List Entry) (e : Entry) (ed : Edition) → Fits ed e → length (flat_map line (es ++ e ∷ [])) ≤ length (flat_map line es) + most_line e
+longer_by : (es : List Entry) (e : Entry) (ed : Edition) → Fits ed e → length (flat_map line (es ++ e ∷ [])) ≤ length (flat_map line es) + own_line e
 longer_by es e ed fits =
     let parts : flat_map line (es ++ e ∷ []) ≡ flat_map line es ++ (line e ++ []) = flat_map-append line es (e ∷ []) in
     omega (arith, ap length parts, length-append (flat_map line es) (line e ++ []), length-append (line e) [], line_fits ed e fits)
@@ -201,6 +272,7 @@ head_size h head = by h.edition
     by : (ed : Edition) → length (header ed ++ (codes "\n" ++ ((codes "procs " ++ decimal h.procs) ++ codes "\n"))) ≤ 100
     by One = omega (arith, length-append (decimal h.procs) (codes "\n"), pid_size h.procs (omega (arith, head.1)))
     by Two = omega (arith, length-append (decimal h.procs) (codes "\n"), pid_size h.procs (omega (arith, head.1)))
+    by Three = omega (arith, length-append (decimal h.procs) (codes "\n"), pid_size h.procs (omega (arith, head.1)))
 
 -- the text of a checkpoint
 pub checkpoint_is_text : (h : Head) (es : List Entry) (bytes : List ℕ) → IsHead h → AllByRecursion (Fits h.edition) (checkpoint (state h es)) →
@@ -220,13 +292,12 @@ checkpoint_is_text h es bytes head fits spelled = record {
   steps_fit = omega (arith, (checkpoint-law h es).few_steps, head.1);
 }
 
--- the text of a legal journal, in which each process exits at most once
-pub text_fits : (h : HubView) (bytes : ℕ) → IsHead h.terms.head → IsLegal h.terms.head h.journal →
-    length (flat_map line h.journal) + LINE_BYTES * steps_of h.journal ≤ CHECKPOINT_BYTES + bytes + LINE_BYTES * length h.journal →
+-- the text of a legal journal, in which each process exits at most once, and once more for each start
+pub text_fits : (h : HubView) (bytes : ℕ) → IsHead h.terms.head → IsLegal h.terms.head h.journal → FitLines h.journal bytes →
     bytes < CHAPTER_BYTES + MOST_LINE_BYTES → FitsText h
 text_fits h bytes head legal lines few =
-    let exits : length h.journal ≤ steps_of h.journal + h.terms.head.procs =
-    subst (λ (j : List Entry). length j ≤ steps_of j + h.terms.head.procs) legal (limits-law h.terms.head h.journal).length in
+    let exits : length h.journal ≤ steps_of h.journal + h.terms.head.procs + length (all_starts h.journal) =
+    subst (λ (j : List Entry). length j ≤ steps_of j + h.terms.head.procs + length (all_starts j)) legal (limits-law h.terms.head h.journal).length in
     omega (arith, length-append (head_lines h.terms.head) (flat_map line h.journal), head_size h.terms.head head, lines, few, exits, head.1)
 
 pub counted_in-append : (xs ys : List Entry) → counted_in (xs ++ ys) ≡ counted_in xs + counted_in ys
@@ -234,18 +305,30 @@ counted_in-append [] ys = omega arith
 counted_in-append (x ∷ xs) ys = omega (arith, counted_in-append xs ys)
 
 -- the lines of a journal that goes on, against what counts
-pub counts_longer : (es : List Entry) (e : Entry) (ed : Edition) (bytes : ℕ) → Fits ed e →
-    length (flat_map line es) + LINE_BYTES * steps_of es ≤ CHECKPOINT_BYTES + bytes + LINE_BYTES * length es →
-    length (flat_map line (es ++ e ∷ [])) + LINE_BYTES * steps_of (es ++ e ∷ []) ≤ CHECKPOINT_BYTES + (bytes + counted e) + LINE_BYTES * length (es ++ e ∷ [])
+pub counts_longer : (es : List Entry) (e : Entry) (ed : Edition) (bytes : ℕ) → Fits ed e → FitLines es bytes → FitLines (es ++ e ∷ []) (bytes + counted e)
 counts_longer es e ed bytes fits lines =
-    omega (arith, longer_by es e ed fits, lines, steps-append es (e ∷ []), length-append es (e ∷ []), share e)
+    omega (arith, longer_by es e ed fits, lines, steps-append es (e ∷ []), starts-append es (e ∷ []), length-append es (e ∷ []), share e)
   where
-    share : (e : Entry) → most_line e + LINE_BYTES * one_step e ≤ counted e + LINE_BYTES
+    share : (e : Entry) → own_line e + LINE_BYTES * (one_step e + length (all_starts (e ∷ []))) ≤ counted e + LINE_BYTES
     share e = by e.step
       where
-        by : (s : Step) → (let x : Entry = record { pid = e.pid; step = s } in most_line x + LINE_BYTES * one_step x ≤ counted x + LINE_BYTES)
+        by : (s : Step) → (let x : Entry = record { pid = e.pid; step = s } in
+            own_line x + LINE_BYTES * (one_step x + length (all_starts (x ∷ []))) ≤ counted x + LINE_BYTES)
         by (Make cap) = omega arith
         by (Call cases default word) = omega arith
         by (Close p) = omega arith
         by Exit = omega arith
         by (Cancel q) = omega arith
+        by (Start q) = omega arith
+        by (Reopen p cap) = omega arith
+
+-- a step behind a checkpoint
+counted_most : (e : Entry) → counted e ≤ most_line e
+counted_most e = by (is_exit e.step)
+  where
+    by : (b : Bool) → cond b 0 (most_line e) ≤ most_line e
+    by true = omega arith
+    by false = omega arith
+
+pub counts_behind : (es : List Entry) (e : Entry) (ed : Edition) → Fits ed e → FitLines es 0 → FitLines (es ++ e ∷ []) (most_line e)
+counts_behind es e ed fits lines = omega (arith, counts_longer es e ed 0 fits lines, counted_most e)

@@ -8,14 +8,16 @@ use Rattle.std.specs.Prelude.{min, ◌^◌, slice_index, Result, Ok, Err, OnOk}
 use Rattle.hub_base.specs.declared.fault.Fault.TheVariants as fault
 use Rattle.hub_base.specs.declared.limits.TheConstants.{MOST_STEPS, MOST_PORTS}
 use Rattle.hub_base.specs.Journal.{JournalView}
-use Rattle.hub_base.specs.Head.{IsHead}
+use Rattle.hub_base.specs.Head.{AreOf, IsHead}
 use Rattle.hub_base.specs.Text.{Fits}
 use Rattle.hub_base.specs.declared.head.Edition.{Edition}
 use Rattle.hub_laws.specs.Journals.{IsLegal}
 use Rattle.hub_laws.proofs.Lasting.{ports-law}
 use Rattle.hub_laws.proofs.Journals.{begins-law}
 use Rattle.hub_laws.proofs.Limits.{limits-law}
+use Rattle.hub_laws.specs.Limits.{all_starts}
 use Rattle.hub_core.specs.HubView.{HubView, ShortInMemory, Steps, Refuses, with_entry, state_of}
+use Rattle.hub_core.proofs.Hubs.{starts-few}
 use Rattle.hub_core.specs.Looks.{look_at, counts_of}
 use Rattle.hub_chapters.specs.Alike.{afresh}
 use Rattle.hub_chapters.specs.Carried.{base_count, received_count}
@@ -35,7 +37,7 @@ use Rattle.hub_cut.specs.Cut.{CutsAndSteps, IsCut, Refused}
 use Rattle.hub_cut.specs.Totals.{in_64_bits, totals_of, totals_at, with_base}
 use Rattle.hub_cut.specs.Recorder.{IsRecorder, IsShort, RecorderView, Records, RecordsStep, RefusesStep, head_of_all, is_full}
 use Rattle.hub_cut.specs.Recorder.{since_cut, with_next, hub_in, IsKeep, is_full_at, chapter_out, begins, out_or}
-use Rattle.hub_cut.proofs.ChapterTexts.{counted_in-append, counts_longer}
+use Rattle.hub_cut.proofs.ChapterTexts.{checkpoint-no_start, counted_in-append, counts_longer, starts-append}
 use Rattle.hub_cut.proofs.Parts.{steps-append}
 
 -- The last chapter, and the history
@@ -47,6 +49,13 @@ chapter_few h (Cut chapters later) =
     let checkpoint : List Entry = checkpoint (state h (last_chapter h chapters)) in
     omega (arith, steps-append checkpoint later, (checkpoint-law h (last_chapter h chapters)).few_steps)
 
+-- its starts all came behind that
+chapter_starts : (h : Head) (chapters : Chapters) → length (all_starts (last_chapter h chapters)) ≤ steps_of (since_cut chapters)
+chapter_starts h (First es) = starts-few es
+chapter_starts h (Cut chapters later) =
+    let s : State = state h (last_chapter h chapters) in
+    omega (arith, starts-append (checkpoint s) later, checkpoint-no_start s, starts-few later)
+
 -- it is legal
 last_legal : (h : Head) (chapters : Chapters) → AreLegal h chapters → IsLegal h (last_chapter h chapters)
 last_legal h (First es) legal = legal
@@ -55,12 +64,18 @@ last_legal h (Cut chapters later) legal = legal.1
 pub recorder_legal : (r : RecorderView) → IsRecorder r → IsLegal (head_of_all r) r.hub.journal
 recorder_legal r (chapters, so) = subst (IsLegal (head_of_all r)) (sym so.present) (last_legal (head_of_all r) chapters so.legal)
 
-pub recorder_short : (r : RecorderView) → IsRecorder r → IsShort r
-recorder_short r (chapters, so) =
+pub recorder_short : (r : RecorderView) → IsRecorder r → AreOf (head_of_all r).edition r.hub.journal → IsShort r
+recorder_short r (chapters, so) fits =
     let h : Head = head_of_all r in
-    let exits : length r.hub.journal ≤ steps_of r.hub.journal + h.procs =
-    subst (λ (j : List Entry). length j ≤ steps_of j + h.procs) (recorder_legal r (chapters, so)) (limits-law h r.hub.journal).length in
-    omega (arith, exits, ap steps_of so.present, chapter_few h chapters, so.fresh, so.few)
+    let legal : IsLegal h r.hub.journal = recorder_legal r (chapters, so) in
+    let law = limits-law h r.hub.journal in
+    let exits : length r.hub.journal ≤ steps_of r.hub.journal + h.procs + length (all_starts r.hub.journal) =
+    subst (λ (j : List Entry). length j ≤ steps_of j + h.procs + length (all_starts j)) legal law.length in
+    record {
+      few = omega (arith, exits, ap steps_of so.present, chapter_few h chapters, so.fresh, so.few);
+      starts = omega (arith, ap (λ (j : List Entry). length (all_starts j)) so.present, chapter_starts h chapters, so.fresh, so.few);
+      none = λ old. subst (λ (j : List Entry). all_starts j ≡ []) legal (law.none old fits);
+    }
 
 -- a process is refused in both for the same
 pub refused_alike : (h : Head) (chapters : Chapters) (journal : List Entry) (pid : Pid) → journal ≡ last_chapter h chapters →
@@ -380,6 +395,8 @@ refuses_next r e fault.TooManyPorts head limit keep room h = absurd h
 refuses_next r e fault.NilClose head limit keep room h = absurd h
 refuses_next r e fault.AlreadyClosed head limit keep room h = absurd h
 refuses_next r e fault.NotParked head limit keep room h = absurd h
+refuses_next r e fault.InUse head limit keep room h = absurd h
+refuses_next r e fault.NotGone head limit keep room h = absurd h
 
 pub refuses_cut : (r : RecorderView) (e : Entry) (f : Fault) → begins r e.step ≡ true → Refused (state_of r.hub) (Unit {0}) e f → RefusesStep r e f
 refuses_cut r e fault.NoProcess over h = λ chapters so. sym (refused_alike (head_of_all r) chapters r.hub.journal e.pid so.present) ∙ h
@@ -395,6 +412,8 @@ refuses_cut r e fault.TooManyPorts over h = absurd h
 refuses_cut r e fault.NilClose over h = absurd h
 refuses_cut r e fault.AlreadyClosed over h = absurd h
 refuses_cut r e fault.NotParked over h = absurd h
+refuses_cut r e fault.InUse over h = absurd h
+refuses_cut r e fault.NotGone over h = absurd h
 
 -- A look
 

@@ -45,6 +45,8 @@ none_reserved (step.Call cases default word) = refl
 none_reserved (step.Close p) = refl
 none_reserved step.Exit = refl
 none_reserved (step.Cancel q) = refl
+none_reserved (step.Start q) = refl
+none_reserved (step.Reopen p cap) = refl
 
 -- the hub after one entry more of these
 pub one_more_made : (base h after : HubView) (es : List Entry) (i : ℕ) (e : Entry) (told : List Event) → base.places ≡ 0 → i < length es → e ≡ get_or es i e →

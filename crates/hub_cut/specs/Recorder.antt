@@ -8,11 +8,13 @@ use Rattle.hub_base.specs.declared.fault.Fault.{Fault}
 use Rattle.hub_base.specs.declared.head.Head.{Head}
 use Rattle.hub_base.specs.declared.limits.TheConstants.{MOST_PORTS}
 use Rattle.hub_base.specs.declared.value.Port.{Port}
+use Rattle.hub_base.specs.Head.{has_lives}
 use Rattle.hub_base.specs.Journal.{JournalView}
 use Rattle.hub_base.specs.Reading.{is_exit}
 use Rattle.hub_base.specs.Steps.{refusal}
 use Rattle.hub_base.specs.Text.{steps_of}
 use Rattle.hub_base.specs.Runs.{state, moves}
+use Rattle.hub_laws.specs.Limits.{all_starts}
 use Rattle.hub_core.specs.HubView.{HubView, ShortInMemory, Grows}
 use Rattle.hub_chapters.specs.Chapters.{Chapters, last_chapter, history, AreLegal}
 use Rattle.hub_chapters.specs.Chapters.Chapters.{First, Cut}
@@ -93,9 +95,13 @@ pub record Records (chapters : Chapters) (r : RecorderView) : Type 0 where
 abbrev pub IsRecorder : RecorderView → Type 0
 IsRecorder r = (chapters : Chapters) × Records chapters r
 
--- the present chapter has no more steps than a checkpoint can have, and `keep`; and an exit of each process
-abbrev pub IsShort : RecorderView → Type 0
-IsShort r = length r.hub.journal ≤ most_steps (head_of_all r) + (head_of_all r).procs + r.keep
+-- the present chapter has no more steps than a checkpoint can have, and `keep`; an exit of each process; and one more for each
+-- start, of which there are no more than `keep`, and none in an edition without starts
+pub record IsShort (r : RecorderView) : Type 0 where
+  pub few :
+      length r.hub.journal ≤ most_steps (head_of_all r) + (head_of_all r).procs + r.keep + length (all_starts r.hub.journal)
+  pub starts : length (all_starts r.hub.journal) ≤ r.keep
+  pub none : has_lives (head_of_all r).edition ≡ false → all_starts r.hub.journal ≡ []
 
 -- a reader takes the texts of both
 abbrev pub FitTexts : RecorderView → Type 0

@@ -1,14 +1,11 @@
 -- What every recorder keeps.
-use Rattle.std.specs.Prelude.{◌≡◌, ◌≤◌, ◌<◌, ◌+◌, ◌*◌, length, IfSome}
-use Rattle.std.specs.List.{flat_map}
+use Rattle.std.specs.Prelude.{◌≡◌, ◌<◌, ◌+◌, IfSome}
 use Rattle.std.specs.Option.{option_map}
 use Rattle.hub_base.specs.declared.limits.TheConstants.{MOST_STEPS}
 use Rattle.hub_base.specs.Head.{IsHead}
-use Rattle.hub_base.specs.Lines.{line}
-use Rattle.hub_base.specs.Text.{steps_of}
 use Rattle.hub_cut.specs.declared.recorder.Recorder.TheInside.{Inside}
-use Rattle.hub_cut.specs.declared.limits.TheConstants.{CHECKPOINT_BYTES, CHAPTER_BYTES, LINE_BYTES, MOST_LINE_BYTES}
-use Rattle.hub_cut.specs.ChapterText.{FitsText}
+use Rattle.hub_cut.specs.declared.limits.TheConstants.{CHAPTER_BYTES, MOST_LINE_BYTES}
+use Rattle.hub_cut.specs.ChapterText.{FitLines, FitsText}
 use Rattle.hub_cut.specs.Recorder.{RecorderView, IsKeep, IsRecorder, hub_in}
 
 -- what contracts see of it
@@ -29,9 +26,7 @@ pub record RecorderKeeps (r : Inside) : Type 0 where
   pub limit : r.hub.memory.hub.terms.limit ≡ MOST_STEPS
   pub keep : IsKeep r.keep
   pub recorder : IsRecorder (shown r)
-  -- the lines of its checkpoint, those behind it, and those of exits
-  pub lines :
-      length (flat_map line r.hub.memory.hub.journal) + LINE_BYTES * steps_of r.hub.memory.hub.journal
-      ≤ CHECKPOINT_BYTES + r.bytes + LINE_BYTES * length r.hub.memory.hub.journal
+  -- the lines of its checkpoint, those behind it, and those of exits for which no start keeps a line
+  pub lines : FitLines r.hub.memory.hub.journal r.bytes
   pub bytes : r.bytes < CHAPTER_BYTES + MOST_LINE_BYTES
   pub text_before : IfSome (option_map hub_in r.before) FitsText

@@ -1,6 +1,6 @@
 -- Worked rows of a recorder's chapters, of its counts and of its texts, each by hand from what they mean.
 use Rattle.std.specs.Prelude.{◌≡◌, true, false, [], ◌∷◌, ◌^◌, ◌-◌, refl}
-use Rattle.hub_base.specs.Notation.{s, r, make, select, send, recv, close}
+use Rattle.hub_base.specs.Notation.{s, r, make, select, send, recv, close, start}
 use Rattle.hub_chapters.specs.Chapters.{Chapters}
 use Rattle.hub_chapters.specs.Chapters.Chapters.{First, Cut}
 use Rattle.hub_cut.specs.ChapterText.{most_line}
@@ -37,6 +37,10 @@ most_line_row = refl
 
 pub close_row : most_line (close 0 1) ≡ 41
 close_row = refl
+
+-- and that of a start keeps as many again
+pub start_row : most_line (start 0 1) ≡ 82
+start_row = refl
 
 pub select_row : most_line (select 1 0 (r 1 ∷ s 2 4 ∷ []) false) ≡ 187
 select_row = refl

@@ -1,17 +1,14 @@
 //! A cut: the journal so far is handed out, and the hub goes on from its checkpoint.
 
-ghost use Rattle.std.specs.Prelude.{◌≡◌, ◌≤◌, ◌<◌, ◌+◌, length, IfOk, IfErr, OnOk, OnErr, None};
-ghost use Rattle.std.specs.List.{flat_map};
-ghost use Rattle.hub_base.specs.Lines.{line};
+ghost use Rattle.std.specs.Prelude.{◌≡◌, ◌≤◌, ◌<◌, IfOk, IfErr, OnOk, OnErr, None};
 ghost use Rattle.hub_base.specs.declared.limits.TheConstants.{MOST_EVENTS};
 ghost use Rattle.hub_base.specs.Text.{Fits};
 ghost use Rattle.hub_base.specs.Steps.{refusal};
 ghost use Rattle.hub_core.specs.HubView.{state_of};
 ghost use Rattle.hub_chapters.specs.Checkpoint.{checkpoint, most_steps};
-ghost use Rattle.hub_cut.specs.ChapterText.{most_line};
+ghost use Rattle.hub_cut.specs.ChapterText.{FitLines, most_line};
 ghost use Rattle.hub_cut.specs.Cut.{CutsAndSteps, HasHeard, IsCut, Refused};
 
-use crate::limits::CHECKPOINT_BYTES;
 use crate::renewals::{renewed, step_admitted_heard};
 use hub_base::{EntryRef, Fault, Hears, Journal, NoMemory};
 use hub_core::ShortHub;
@@ -30,11 +27,11 @@ pub fn cut(alloc: Global, hub: &mut ShortHub) -> Result<ShortHub, NoMemory>
     cut_short(alloc, hub)
 }
 
-/// The same, and tells how long the lines of the checkpoint are.
+/// The same, and tells how long its lines are.
 pub(crate) fn cut_short(alloc: Global, hub: &mut ShortHub) -> Result<ShortHub, NoMemory>
     ensures whole { IfOk result (λ h. h ≡ hub.old) }
     ensures goes_on { OnOk result (IsCut hub.old.memory.hub hub.new.memory.hub) }
-    ensures lines { OnOk result (length (flat_map line hub.new.memory.hub.journal) ≤ CHECKPOINT_BYTES) }
+    ensures lines { OnOk result (FitLines hub.new.memory.hub.journal 0) }
     ensures unchanged { OnErr result (hub.new ≡ hub.old) }
 {
     let next = renewed(alloc, hub)?;
@@ -65,8 +62,7 @@ fn renewed_after<E: Hears>(
     requires hears { MOST_EVENTS ≤ E.room events.old }
     ensures ok { IfOk result (λ h.
         HasHeard (E.heard events.old) events.new (CutsAndSteps hub.now.memory.hub entry.now h.memory.hub)) }
-    ensures lines { IfOk result (λ h.
-        length (flat_map line h.memory.hub.journal) ≤ CHECKPOINT_BYTES + most_line entry.now) }
+    ensures lines { IfOk result (λ h. FitLines h.memory.hub.journal (most_line entry.now)) }
     ensures silent { OnErr result (events.new ≡ events.old) }
 {
     let mut next = renewed(alloc, hub)?;
@@ -88,8 +84,7 @@ pub(crate) fn cut_and_step<E: Hears>(
     ensures whole { IfOk result (λ h. h ≡ hub.old) }
     ensures ok { OnOk result (
         HasHeard (E.heard events.old) events.new (CutsAndSteps hub.old.memory.hub entry.now hub.new.memory.hub)) }
-    ensures lines { OnOk result (
-        length (flat_map line hub.new.memory.hub.journal) ≤ CHECKPOINT_BYTES + most_line entry.now) }
+    ensures lines { OnOk result (FitLines hub.new.memory.hub.journal (most_line entry.now)) }
     ensures refused { IfErr result (λ f. Refused (state_of hub.old.memory.hub) (Unit {0}) entry.now f) }
     ensures unchanged { OnErr result (hub.new ≡ hub.old) }
     ensures silent { OnErr result (events.new ≡ events.old) }

@@ -233,7 +233,7 @@ impl Recorder {
         ensures short { IsShort self.now }
         ensures texts { FitTexts self.now }
     {
-        let _hub = &self.hub;
+        self.hub.journal_is_legal();
     }
 
     /// The hub as it was at the last cut, if there was one. Its journal is the chapter before the present one.

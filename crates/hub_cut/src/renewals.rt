@@ -10,7 +10,7 @@ ghost use Rattle.hub_base.specs.Notation.{exit};
 ghost use Rattle.hub_base.specs.Steps.{refusal};
 ghost use Rattle.hub_base.specs.Text.{Fits, steps_of};
 ghost use Rattle.hub_laws.specs.Journals.{IsLegal};
-ghost use Rattle.hub_core.specs.Follows.{IsMake};
+ghost use Rattle.hub_core.specs.Follows.{TakesMemory};
 ghost use Rattle.hub_base.specs.declared.limits.TheConstants.{MOST_EVENTS};
 ghost use Rattle.hub_core.specs.HubView.{Grows, HasRoom, HasSpare, IsLimit, Steps, StepsHeard, opened_hub, state_of};
 ghost use Rattle.hub_chapters.specs.Checkpoint.{call_again, checkpoint, exited, ports_again};
@@ -48,7 +48,7 @@ pub fn step_admitted(
     requires admitted { refusal (state_of hub.old.memory.hub) entry.now.pid ≡ None }
     ensures ok { OnOk result (Steps hub.old.memory.hub entry.now hub.new.memory.hub events.new.items) }
     ensures grows { OnErr result (Grows entry.now.step hub.old.memory.hub.places) }
-    ensures make { OnErr result (HasSpare hub.old.memory → IsMake entry.now.step) }
+    ensures make { OnErr result (HasSpare hub.old.memory → TakesMemory entry.now.step) }
     ensures unchanged { OnErr result (hub.new.memory.hub ≡ hub.old.memory.hub) }
 {
     events.clear();
@@ -68,7 +68,7 @@ pub(crate) fn step_admitted_heard<E: Hears>(
     ensures ok { OnOk result (
         StepsHeard hub.old.memory.hub entry.now hub.new.memory.hub (E.heard events.old) events.new) }
     ensures grows { OnErr result (Grows entry.now.step hub.old.memory.hub.places) }
-    ensures make { OnErr result (HasSpare hub.old.memory → IsMake entry.now.step) }
+    ensures make { OnErr result (HasSpare hub.old.memory → TakesMemory entry.now.step) }
     ensures unchanged { OnErr result (hub.new.memory.hub ≡ hub.old.memory.hub) }
     ensures silent { OnErr result (events.new ≡ events.old) }
 {

@@ -8,9 +8,10 @@ ghost use Rattle.hub_base.specs.Text.{Fits};
 ghost use Rattle.hub_cut.specs.ChapterText.{most_line};
 
 use crate::limits::{CASE_BYTES, LINE_BYTES, MOST_LINE_BYTES};
-use hub_base::{Edition, Entry, EntryRef};
+use hub_base::{Edition, Entry, EntryRef, Step};
 
-/// The most bytes that the entry's line can have.
+/// So many bytes are kept for the entry's line, at least as many as it has. A start keeps those of a second line, for the
+/// exit that its process may then make again.
 pub(crate) fn most_line(edition: Edition, entry: &EntryRef<'_>) -> u32
     requires fits { is_of edition entry.now.step ≡ true }
     ensures most { result ≡ most_line entry.now }
@@ -18,7 +19,10 @@ pub(crate) fn most_line(edition: Edition, entry: &EntryRef<'_>) -> u32
     ensures fits { Fits edition entry.now }
 {
     let _fits = entry.fits(edition);
-    LINE_BYTES + CASE_BYTES * entry.step.cases().len() as u32
+    match entry.step {
+        Step::Start(_) => 2 * LINE_BYTES,
+        _ => LINE_BYTES + CASE_BYTES * entry.step.cases().len() as u32,
+    }
 }
 
 /// Shows that a text can have a line of each of these entries. It changes nothing.

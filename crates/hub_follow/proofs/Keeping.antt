@@ -5,7 +5,7 @@ use Rattle.std.specs.Prelude.{slice_get, IfSome, Result, Ok, Err}
 use Rattle.std.proofs.lemmas.List.{length_push}
 use Rattle.std.proofs.lemmas.Option.{slice_get_within}
 use Rattle.hub_base.specs.Entry.{Entry, Step}
-use Rattle.hub_base.specs.declared.entry.Step.TheVariants.{Make, Call, Close, Exit, Cancel}
+use Rattle.hub_base.specs.declared.entry.Step.TheVariants.{Make, Call, Close, Exit, Cancel, Start, Reopen}
 use Rattle.hub_base.specs.declared.value.Pid.{Pid}
 use Rattle.hub_base.specs.Head.{AreOf}
 use Rattle.hub_base.specs.declared.event.Event.{Event}
@@ -111,6 +111,8 @@ refused_so h pid (Call cases default own) word other refuses = refuses
 refused_so h pid (Close p) word f refuses = refuses
 refused_so h pid Exit word f refuses = refuses
 refused_so h pid (Cancel q) word f refuses = refuses
+refused_so h pid (Start q) word f refuses = refuses
+refused_so h pid (Reopen p cap) word f refuses = refuses
 
 -- the hub made the next step, or refused it
 pub step_next : (l : FollowView) (e : Entry) (word : ℕ) (now : LockedView) (result : Result Event NotMade) → FollowKeeps l

@@ -4,7 +4,7 @@ use Rattle.std.specs.Prelude.{Option, None, Some, IfSome, unwrap_or, option_and_
 use Rattle.std.specs.List.{position_from}
 use Rattle.std.specs.Option.{option_map}
 use Rattle.hub_base.specs.Entry.{Entry, Step}
-use Rattle.hub_base.specs.declared.entry.Step.TheVariants.{Make, Call, Close, Exit, Cancel}
+use Rattle.hub_base.specs.declared.entry.Step.TheVariants.{Make, Call, Close, Exit, Cancel, Start, Reopen}
 use Rattle.hub_base.specs.declared.event.Event.{Event}
 use Rattle.hub_base.specs.declared.fault.Fault.TheVariants as fault
 use Rattle.hub_base.specs.declared.limits.TheConstants.{MOST_BYTES, MOST_STEPS}
@@ -79,6 +79,8 @@ step_with word (Make cap) = Make cap
 step_with word (Close p) = Close p
 step_with word Exit = Exit
 step_with word (Cancel q) = Cancel q
+step_with word (Start q) = Start q
+step_with word (Reopen p cap) = Reopen p cap
 
 -- this entry, with that choice word in place of its own if it is a call
 abbrev pub with_word : ℕ → Entry → Entry

@@ -81,6 +81,11 @@ fn with_word<'a>(entry: &EntryRef<'a>, word: u64) -> EntryRef<'a>
         Step::Close(port) => Step::Close(*port),
         Step::Exit => Step::Exit,
         Step::Cancel(pid) => Step::Cancel(*pid),
+        Step::Start(pid) => Step::Start(*pid),
+        Step::Reopen { port, cap } => Step::Reopen {
+            port: *port,
+            cap: *cap,
+        },
     };
     EntryRef {
         pid: entry.pid,

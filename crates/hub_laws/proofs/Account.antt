@@ -2,8 +2,9 @@
 -- it, who waits then, what is written on which port, and who has gone. The laws follow from it.
 use Rattle.hub_laws.proofs.Prelude.{arith, ◌≡◌, Bool, true, false, List, [], ◌∷◌, ◌++◌, refl, ap, sym, Option, Some, None, if◌then◌else◌, list_any}
 use Rattle.hub_laws.proofs.Prelude.{AllByRecursion, filter_map, cons_option, option_map, Step, What, Head, Pid, Port, is_exit, can_proceed, State, Channel}
-use Rattle.hub_laws.proofs.Prelude.{OpenCall, calls, Change, tells, cases_or, of_what, is_answer_to, port_touched_by, found_closed, shown, is_parked, Apart}
-use Rattle.hub_laws.proofs.Prelude.{IsSound, PortSound, all_snoc}
+use Rattle.hub_laws.proofs.Prelude.{OpenCall, calls, Change, tells, cases_or, of_what, is_answer_to, port_touched_by, found_closed, shown, is_parked}
+use Rattle.hub_laws.proofs.Prelude.{Apart}
+use Rattle.hub_laws.proofs.Prelude.{IsSound, PortSound, all_snoc, Start, filter, not, ◌==◌, opened_by}
 use Rattle.hub_laws.proofs.Calls.{Fewer}
 use Rattle.hub_laws.proofs.Deeds.{Deed, deed_of, at, Wrote, Does}
 use Rattle.hub_laws.proofs.Leaving.{Ended, events_of, EndsWell, InPlace, Leave, nobody, leave-all}
@@ -16,9 +17,14 @@ call_of pid step = record { pid = pid; cases = cases_or step [] }
 abbrev pub with_caller : List OpenCall → Pid → Step → What → List OpenCall
 with_caller calls pid step answer = if is_parked answer then calls ++ call_of pid step ∷ [] else calls
 
+-- those that have exited, without the process that this starts again
+abbrev pub without_started : List Pid → Step → List Pid
+without_started gone (Start q) = filter (λ g. not (g.0 == q.0)) gone
+without_started gone step = gone
+
 -- those that have exited, with the caller where this is its exit
 abbrev pub with_leaver : List Pid → Pid → Step → List Pid
-with_leaver gone pid step = if is_exit step then gone ++ pid ∷ [] else gone
+with_leaver gone pid step = if is_exit step then gone ++ pid ∷ [] else without_started gone step
 
 -- the communications of the calls that end
 abbrev pub ended_deeds : List Ended → List Deed
@@ -54,14 +60,14 @@ pub record Account (s : State) (pid : Pid) (step : Step) (c : Change) : Type 0 w
   -- the caller waits only where no case of its call can proceed
   pub blocked : is_parked answer ≡ true → list_any (can_proceed s) (cases_or step []) ≡ false
   -- at most one channel is written or made, that of the port which the answer names, as the communications say
-  pub does : IsSound s → Does s.channels c.state.channels (port_touched_by step answer) (deeds_of step answer ended)
+  pub does : IsSound s → Does s.channels c.state.channels (port_touched_by step answer) (opened_by step answer) (deeds_of step answer ended)
   -- and none where a case found its port closed
   pub still : found_closed answer ≡ true → IsSound s → (p : Port) → at c.state.channels p ≡ at s.channels p
   -- and else what the port shows is another
   pub moved : found_closed answer ≡ false → IsSound s → Moves (port_touched_by step answer) s.channels c.state.channels
   -- and it suits those that wait then
   pub sound : IsSound s → NamedSound (port_touched_by step answer) c.state.channels c.state.parked
-  -- the head is the same, and the caller alone can exit
+  -- the head is the same; an exit adds its caller to those that have exited, and a start takes its process from them
   pub head : c.state.head ≡ s.head
   pub gone : c.state.gone ≡ with_leaver s.gone pid step
 
@@ -86,7 +92,7 @@ account-all P s pid step c apart a all new =
 pub alone : (s : State) (ts : List Channel) (pid : Pid) (step : Step) (answer : What) →
     is_answer_to step answer ≡ true → InPlace (cases_or step []) answer →
     (is_parked answer ≡ true → list_any (can_proceed s) (cases_or step []) ≡ false) →
-    (IsSound s → Does s.channels ts (port_touched_by step answer) (deeds_of step answer [])) →
+    (IsSound s → Does s.channels ts (port_touched_by step answer) (opened_by step answer) (deeds_of step answer [])) →
     (found_closed answer ≡ true → IsSound s → (p : Port) → at ts p ≡ at s.channels p) →
     (found_closed answer ≡ false → IsSound s → Moves (port_touched_by step answer) s.channels ts) →
     (IsSound s → NamedSound (port_touched_by step answer) ts (with_caller s.parked pid step answer)) →

@@ -1,13 +1,17 @@
 -- After a close no case on the port is sent, and receives drain the buffer.
 use Rattle.hub_laws.proofs.Prelude.{arith, ◌≡◌, true, false, List, [], ◌∷◌, ◌++◌, refl, ap, ◌∙◌, sym, subst, Option, Some, None, ℕ, ◌==◌, suc, drop}
-use Rattle.hub_laws.proofs.Prelude.{append-nil, append_assoc, add-one, inl, inr, drop-cons, drop_all, slice_get_cases, get_or_from_slice_get, slice_get_within}
+use Rattle.hub_laws.proofs.Prelude.{append-nil, append_assoc, add-one, inl, inr, drop-cons, drop_all, slice_get_cases, get_or_from_slice_get}
+use Rattle.hub_laws.proofs.Prelude.{slice_get_within}
 use Rattle.hub_laws.proofs.Prelude.{slice_get, Case, Send, Recv, Entry, Close, Outcome, Sent, Fault, Head, Pid, Port, port_of, moves, state_after, state}
 use Rattle.hub_laws.proofs.Prelude.{State, Channel, channel_at, opening, buffer_of, Change, after_receive, shut, stalls, closes, close_fault, is_unmade}
 use Rattle.hub_laws.proofs.Prelude.{fault_of, answers, Turned, turns_after, values_from, close_by, sent_at, heard, Drains, answers_done, StaysClosed}
-use Rattle.hub_laws.proofs.Prelude.{port_touched, IsSound}
+use Rattle.hub_laws.proofs.Prelude.{port_touched, IsSound, is_port, opened, opens_again, or_parts, or_from, and_parts, AreOf, has_lives, is_of}
+use Rattle.hub_laws.proofs.Prelude.{Edition, Step, Event, Make, Call, Exit, Cancel, Start, Reopen}
+use Rattle.std.specs.List.{list_all}
 use Rattle.hub_base.specs.declared.fault.Fault.TheVariants as fault
 use Rattle.hub_laws.proofs.Branches.{by-stall}
-use Rattle.hub_laws.proofs.Deeds.{Knows, Deed, deed_of, told, picks, at, Moved, buffers, hands, fetches, gives, drains, refuses, shuts, DoesAt, stays_at}
+use Rattle.hub_laws.proofs.Deeds.{Knows, Deed, deed_of, told, picks, at, Moved, buffers, hands, fetches, gives, drains, refuses, shuts, opens, DoesAt}
+use Rattle.hub_laws.proofs.Deeds.{stays_at}
 use Rattle.hub_laws.proofs.Deeds.{makes_at, moves_at}
 use Rattle.hub_laws.proofs.Calls.{same_number}
 use Rattle.hub_laws.proofs.Ready.{none_false}
@@ -45,11 +49,12 @@ stays_same : (p : Port) (c : Channel) (ts : List Channel) (deeds : List Deed) �
     → picks (sent_at p) deeds ≡ [] → picks (heard p) deeds ≡ [] → Stays p c ts deeds
 stays_same p c ts deeds new over none silent = record { after = c; stands = new; closed = over; none = none; drains = λ os h. rw silent h }
 
-stays_moved : (p : Port) (c d : Channel) (ts : List Channel) (deeds : List Deed) → at ts p ≡ Some d → c.closed ≡ true → Moved p c d deeds → Stays p c ts deeds
-stays_moved p c d ts deeds new over (buffers v live is e) = cc
-stays_moved p c d ts deeds new over (hands v w live next is e) = cc
-stays_moved p c d ts deeds new over (fetches v w live next is e) = cc
-stays_moved p c d ts deeds new over (gives w next is e) = record {
+stays_moved : (p : Port) (c d : Channel) (ts : List Channel) (again : Option Port) (deeds : List Deed) → at ts p ≡ Some d → c.closed ≡ true →
+    is_port again p ≡ false → Moved p c d again deeds → Stays p c ts deeds
+stays_moved p c d ts again deeds new over shut_still (buffers v live is e) = cc
+stays_moved p c d ts again deeds new over shut_still (hands v w live next is e) = cc
+stays_moved p c d ts again deeds new over shut_still (fetches v w live next is e) = cc
+stays_moved p c d ts again deeds new over shut_still (gives w next is e) = record {
   after = after_receive c;
   stands = new ∙ ap (λ x. Some x) is;
   closed = over;
@@ -57,18 +62,22 @@ stays_moved p c d ts deeds new over (gives w next is e) = record {
   drains = λ os h. rw (e, same_number p.0, drop_next c.sent c.received w next)
       (refl, (let k : Drains (drop (suc c.received) c.sent) os = rw add-one at h in k));
 }
-stays_moved p c d ts deeds new over (drains next is e) = grind (arith, drop_end)
-stays_moved p c d ts deeds new over (refuses v closed is e) = stays_same p c ts deeds (new ∙ ap (λ x. Some x) is) over (rw e refl) (rw e refl)
-stays_moved p c d ts deeds new over (shuts live is all) = cc
+stays_moved p c d ts again deeds new over shut_still (drains next is e) = grind (arith, drop_end)
+stays_moved p c d ts again deeds new over shut_still (refuses v closed is e) = stays_same p c ts deeds (new ∙ ap (λ x. Some x) is) over (rw e refl) (rw e refl)
+stays_moved p c d ts again deeds new over shut_still (opens cap names closed drained is e) =
+    let h : (p.0 == p.0) ≡ false = rw names at shut_still in
+    let g = same_number p.0 in
+    cc
+stays_moved p c d ts again deeds new over shut_still (shuts live is all) = cc
 
-stays-does : (p : Port) (c : Channel) (cs ts : List Channel) (deeds : List Deed) → at cs p ≡ Some c → c.closed ≡ true →
-    DoesAt cs ts deeds p → Stays p c ts deeds
-stays-does p c cs ts deeds old over (stays_at same off) =
+stays-does : (p : Port) (c : Channel) (cs ts : List Channel) (again : Option Port) (deeds : List Deed) → at cs p ≡ Some c → c.closed ≡ true →
+    is_port again p ≡ false → DoesAt cs ts again deeds p → Stays p c ts deeds
+stays-does p c cs ts again deeds old over shut_still (stays_at same off) =
     stays_same p c ts deeds (same ∙ old) over (others-none (sent_at p) p deeds (sent_none p) off) (others-none (heard p) p deeds (heard_none p) off)
-stays-does p c cs ts deeds old over (makes_at cap before after e) = absurd (let g : ⊥ = cc in g)
-stays-does p c cs ts deeds old over (moves_at x d before new m) =
+stays-does p c cs ts again deeds old over shut_still (makes_at cap before after e) = absurd (let g : ⊥ = cc in g)
+stays-does p c cs ts again deeds old over shut_still (moves_at x d before new m) =
     let one : x ≡ c = cc in
-    stays_moved p c d ts deeds new over (subst (λ (y : Channel). Moved p y d deeds) one m)
+    stays_moved p c d ts again deeds new over shut_still (subst (λ (y : Channel). Moved p y d again deeds) one m)
 
 -- A run from a state where the channel of p is closed
 
@@ -77,16 +86,19 @@ pub record Later (p : Port) (c : Channel) (ts : List Turned) (s : State) (es : L
   pub drains : Drains (buffer_of c) (values_from (heard p) ts (turns_after s es))
 
 later : (p : Port) (c : Channel) (ts : List Turned) (s : State) (es : List Entry) → IsSound s → Knows (in_force ts) s.parked
-    → channel_at s p ≡ Some c → c.closed ≡ true → Later p c ts s es
-later p c ts s [] sound knows old over = record { none = refl; drains = tt }
-later p c ts s (e ∷ es) sound knows old over =
+    → channel_at s p ≡ Some c → c.closed ≡ true → opens_again p (turns_after s es) ≡ false → Later p c ts s es
+later p c ts s [] sound knows old over shut_still = record { none = refl; drains = tt }
+later p c ts s (e ∷ es) sound knows old over shut_still =
     let t : Turned = record { entry = e; events = (moves s e).events } in
     let laws = moves-turn s e ts sound knows in
     let deeds : List Deed = told deed_of (in_force (ts ++ t ∷ [])) (moves s e).events in
     let named : Option Port = port_touched e.step (moves s e).events in
+    let again : Option Port = opened e.step (moves s e).events in
+    let shut_on = or_parts (is_port again p) (opens_again p (turns_after (moves s e).state es)) shut_still in
     let stays : Stays p c (moves s e).state.channels deeds =
-    stays-does p c s.channels (moves s e).state.channels deeds old over (does-at s.channels (moves s e).state.channels named deeds laws.does p) in
-    let rest = later p stays.after (ts ++ t ∷ []) (moves s e).state es (moves-sound s e sound) laws.knows stays.stands stays.closed in
+    stays-does p c s.channels (moves s e).state.channels again deeds old over shut_on.0
+    (does-at s.channels (moves s e).state.channels named again deeds laws.does p) in
+    let rest = later p stays.after (ts ++ t ∷ []) (moves s e).state es (moves-sound s e sound) laws.knows stays.stands stays.closed shut_on.1 in
     record {
       none = rw (told-picks (sent_at p) (in_force (ts ++ t ∷ [])) t.events (λ o. no_case_sent p o), stays.none) rest.none;
       drains = rw (told-picks (heard p) (in_force (ts ++ t ∷ [])) t.events (λ o. refl))
@@ -131,11 +143,33 @@ pub state-knows : (head : Head) (es : List Entry) → Knows (in_force (turns_aft
 state-knows head es = knows_after (opening head) [] es (sound-opening head) tt
 
 pub after_close-law : (head : Head) (es fs : List Entry) (pid : Pid) (p : Port) →
-    answers_done (moves (state head es) (close_by pid p)).events ≡ true → StaysClosed head (es ++ close_by pid p ∷ []) fs p
-after_close-law head es fs pid p h =
+    answers_done (moves (state head es) (close_by pid p)).events ≡ true →
+    opens_again p (turns_after (state head (es ++ close_by pid p ∷ [])) fs) ≡ false → StaysClosed head (es ++ close_by pid p ∷ []) fs p
+after_close-law head es fs pid p h shut_still =
     let e : Entry = close_by pid p in
     let all : List Entry = es ++ e ∷ [] in
     let c = close-closes (state head es) pid p h in
     let there : channel_at (state head all) p ≡ Some c.0 = ap (λ (s : State). channel_at s p) (state-entry head es e) ∙ c.1 in
-    let l = later p c.0 (turns_after (opening head) all) (state head all) fs (state-sound head all) (state-knows head all) there c.2 in
+    let l = later p c.0 (turns_after (opening head) all) (state head all) fs (state-sound head all) (state-knows head all) there c.2 shut_still in
     record { left = c.0; made = there; closed = c.2; sent = l.none; heard = l.drains }
+
+-- in an edition without reopens no port is opened again
+
+no_reopen : (edition : Edition) (step : Step) (events : List Event) (p : Port) → has_lives edition ≡ false → is_of edition step ≡ true →
+    is_port (opened step events) p ≡ false
+no_reopen edition step [] p old h = refl
+no_reopen edition (Reopen q cap) (x ∷ xs) p old h = cc
+no_reopen edition (Make cap) (x ∷ xs) p old h = refl
+no_reopen edition (Call cases default word) (x ∷ xs) p old h = refl
+no_reopen edition (Close q) (x ∷ xs) p old h = refl
+no_reopen edition Exit (x ∷ xs) p old h = refl
+no_reopen edition (Cancel q) (x ∷ xs) p old h = refl
+no_reopen edition (Start q) (x ∷ xs) p old h = refl
+
+pub never-opened : (edition : Edition) (p : Port) (s : State) (fs : List Entry) → has_lives edition ≡ false → AreOf edition fs →
+    opens_again p (turns_after s fs) ≡ false
+never-opened edition p s [] old of_edition = refl
+never-opened edition p s (e ∷ es) old of_edition =
+    let both = and_parts (is_of edition e.step) (list_all (λ x. is_of edition x.step) es) of_edition in
+    or_from (is_port (opened e.step (moves s e).events) p) (opens_again p (turns_after (moves s e).state es))
+    (no_reopen edition e.step (moves s e).events p old both.0) (never-opened edition p (moves s e).state es old both.1)

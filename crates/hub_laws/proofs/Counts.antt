@@ -1,8 +1,11 @@
 -- No more values are sent on a port than there are admitted entries that are no exits.
-use Rattle.hub_laws.proofs.Prelude.{common_steps, ◌≡◌, Bool, true, false, List, [], ◌∷◌, ◌++◌, refl, sym, Option, Some, None, ℕ, ◌==◌, ◌+◌, ◌≤◌, cond, length}
-use Rattle.hub_laws.proofs.Prelude.{arith, ◌-◌, option_map_or, slice_get, Entry, Step, Event, Fault, Head, Port, is_exit, admits, moves, state_after, state}
-use Rattle.hub_laws.proofs.Prelude.{kept_after, keeps, State, Channel, channel_at, opening, refusal, turn, one_step, steps_of, Turned, CountsLaw, port_touched}
-use Rattle.hub_laws.proofs.Prelude.{IsSound}
+use Rattle.hub_laws.proofs.Prelude.{common_steps, ◌≡◌, Bool, true, false, List, [], ◌∷◌, ◌++◌, refl, sym, Option, Some, None, ℕ, ◌==◌, ◌+◌, ◌≤◌, cond}
+use Rattle.hub_laws.proofs.Prelude.{length}
+use Rattle.hub_laws.proofs.Prelude.{arith, ◌-◌, option_map_or, slice_get, Entry, Step, Event, Fault, Head, Port, is_exit, admits, moves, state_after}
+use Rattle.hub_laws.proofs.Prelude.{state}
+use Rattle.hub_laws.proofs.Prelude.{kept_after, keeps, State, Channel, channel_at, opening, refusal, turn, one_step, steps_of, Turned, CountsLaw}
+use Rattle.hub_laws.proofs.Prelude.{port_touched}
+use Rattle.hub_laws.proofs.Prelude.{IsSound, opened}
 use Rattle.hub_laws.proofs.Deeds.{Knows, Deed, deed_of, told, at, Does, DoesAt}
 use Rattle.hub_laws.proofs.Does.{does-others, does-at}
 use Rattle.hub_laws.proofs.Kept.{sound-opening}
@@ -15,31 +18,37 @@ sends_of o = option_map_or (λ c. length c.sent) o 0
 
 -- One step sends at most one
 
-does_sends : (cs ts : List Channel) (deeds : List Deed) (p : Port) → DoesAt cs ts deeds p → sends_of (at ts p) ≤ sends_of (at cs p) + 1
-does_sends cs ts deeds p x4 = grind (arith, common_steps)
+does_sends : (cs ts : List Channel) (again : Option Port) (deeds : List Deed) (p : Port) → DoesAt cs ts again deeds p →
+    sends_of (at ts p) ≤ sends_of (at cs p) + 1
+does_sends cs ts again deeds p x4 = grind (arith, common_steps)
 
 -- and where it names no port, none
-idle_sends : (cs ts : List Channel) (named : Option Port) (deeds : List Deed) (p : Port) → named ≡ None →
-    Does cs ts named deeds → sends_of (at ts p) ≤ sends_of (at cs p)
-idle_sends cs ts named deeds p none does = rw (does-others cs ts named deeds does p (rw none refl)) (omega arith)
+idle_sends : (cs ts : List Channel) (named again : Option Port) (deeds : List Deed) (p : Port) → named ≡ None →
+    Does cs ts named again deeds → sends_of (at ts p) ≤ sends_of (at cs p)
+idle_sends cs ts named again deeds p none does = rw (does-others cs ts named again deeds does p (rw none refl)) (omega arith)
 
 exit_names_none : (step : Step) (events : List Event) → is_exit step ≡ true → port_touched step events ≡ None
 exit_names_none step x1 e = grind arith
 
 step_sends : (s t : State) (e : Entry) (events : List Event) (deeds : List Deed) (p : Port) →
-    Does s.channels t.channels (port_touched e.step events) deeds →
+    Does s.channels t.channels (port_touched e.step events) (opened e.step events) deeds →
     sends_of (channel_at t p) ≤ sends_of (channel_at s p) + one_step e
 step_sends s t e events deeds p does = by (is_exit e.step) refl
   where
+    named : Option Port
+    named = port_touched e.step events
+
+    again : Option Port
+    again = opened e.step events
+
     by : (b : Bool) → b ≡ is_exit e.step → sends_of (channel_at t p) ≤ sends_of (channel_at s p) + cond b 0 1
-    by true is =
-        omega (arith, idle_sends s.channels t.channels (port_touched e.step events) deeds p (exit_names_none e.step events (sym is)) does)
-    by false is = does_sends s.channels t.channels deeds p (does-at s.channels t.channels (port_touched e.step events) deeds does p)
+    by true is = omega (arith, idle_sends s.channels t.channels named again deeds p (exit_names_none e.step events (sym is)) does)
+    by false is = does_sends s.channels t.channels again deeds p (does-at s.channels t.channels named again deeds does p)
 
 -- Runs
 
 entry_sends : (s : State) (e : Entry) (o : Option Fault) (deeds : List Deed) (p : Port) →
-    Does s.channels (admits s e o).state.channels (port_touched e.step (admits s e o).events) deeds →
+    Does s.channels (admits s e o).state.channels (port_touched e.step (admits s e o).events) (opened e.step (admits s e o).events) deeds →
     sends_of (channel_at (admits s e o).state p) ≤ sends_of (channel_at s p) + steps_of (keeps o e [])
 entry_sends s e None deeds p does = omega (arith, step_sends s (turn s e).state e (turn s e).events deeds p does)
 entry_sends s e (Some f) deeds p does = omega arith

@@ -1,5 +1,6 @@
 -- What a write does to the channels, and what follows of each port from what a step can do to them.
-use Rattle.hub_laws.proofs.Prelude.{common_steps, ◌≡◌, Bool, true, false, List, [], ◌∷◌, ◌++◌, refl, ap, ◌∙◌, sym, subst, Option, Some, None, ℕ, ◌==◌, zero}
+use Rattle.hub_laws.proofs.Prelude.{common_steps, ◌≡◌, Bool, true, false, List, [], ◌∷◌, ◌++◌, refl, ap, ◌∙◌, sym, subst, Option, Some, None, ℕ, ◌==◌}
+use Rattle.hub_laws.proofs.Prelude.{zero}
 use Rattle.hub_laws.proofs.Prelude.{suc, ◌+◌, ◌≤◌, cond, length, arith, ◌-◌, ◌<◌, length-set, eqb-true, eqb-false, slice_get_past, slice_get_within}
 use Rattle.hub_laws.proofs.Prelude.{slice_get-get_or, AllByRecursion, option_map, slice_get, slice_set, get_or, MOST_PORTS, Port, Value, port_of, State}
 use Rattle.hub_laws.proofs.Prelude.{Channel, channel_at, after_send, next_value, shown, is_port, IsMade, IsSound, all_more}
@@ -75,40 +76,40 @@ other_port cs d p h = grind (arith, get_snoc)
 -- What follows from what a step can do
 
 -- the port that is named is made
-pub does-made : (cs ts : List Channel) (named : Option Port) (deeds : List Deed) → Does cs ts named deeds →
+pub does-made : (cs ts : List Channel) (named again : Option Port) (deeds : List Deed) → Does cs ts named again deeds →
     (p : Port) → named ≡ Some p → IsMade p (length ts)
-does-made cs ts named deeds x4 p h = grind (arith, common_steps, slice_get_within)
+does-made cs ts named again deeds x4 p h = grind (arith, common_steps, slice_get_within)
 
 -- and no other is written
-pub does-others : (cs ts : List Channel) (named : Option Port) (deeds : List Deed) → Does cs ts named deeds →
+pub does-others : (cs ts : List Channel) (named again : Option Port) (deeds : List Deed) → Does cs ts named again deeds →
     (p : Port) → is_port named p ≡ false → at ts p ≡ at cs p
-does-others cs ts named deeds x4 p h = grind (arith, other_port)
+does-others cs ts named again deeds x4 p h = grind (arith, other_port)
 
 -- no more ports than there may be
-pub does-few : (cs ts : List Channel) (named : Option Port) (deeds : List Deed) → Does cs ts named deeds →
+pub does-few : (cs ts : List Channel) (named again : Option Port) (deeds : List Deed) → Does cs ts named again deeds →
     length cs ≤ MOST_PORTS → length ts ≤ MOST_PORTS
-does-few cs ts named deeds x4 few = grind (arith, common_steps)
+does-few cs ts named again deeds x4 few = grind (arith, common_steps)
 
 -- and none is lost
-pub does-grows : (cs ts : List Channel) (named : Option Port) (deeds : List Deed) → Does cs ts named deeds →
+pub does-grows : (cs ts : List Channel) (named again : Option Port) (deeds : List Deed) → Does cs ts named again deeds →
     length cs ≤ length ts
-does-grows cs ts named deeds x4 = grind (arith, common_steps)
+does-grows cs ts named again deeds x4 = grind (arith, common_steps)
 
 -- where it moves one port, all communications are on that, and none on another
-pub elsewhere : (p q : Port) (c d : Channel) (deeds : List Deed) → (q.0 == p.0) ≡ false → Moved q c d deeds →
+pub elsewhere : (p q : Port) (c d : Channel) (again : Option Port) (deeds : List Deed) → (q.0 == p.0) ≡ false → Moved q c d again deeds →
     AllByRecursion (λ x. ((port_of x.case).0 == p.0) ≡ false) deeds
-elsewhere p q c d deeds h x6 = grind (arith, all_more)
+elsewhere p q c d again deeds h x6 = grind (arith, all_more)
 
 -- at each port
-pub does-at : (cs ts : List Channel) (named : Option Port) (deeds : List Deed) → Does cs ts named deeds → (p : Port) → DoesAt cs ts deeds p
-does-at cs ts named deeds (idle none same e) p = stays_at (ap (λ xs. at xs p) same) (rw e tt)
-does-at cs ts named deeds (adds cap room names same e) p = by (length cs + 1 == p.0) refl
+pub does-at : (cs ts : List Channel) (named again : Option Port) (deeds : List Deed) → Does cs ts named again deeds → (p : Port) → DoesAt cs ts again deeds p
+does-at cs ts named again deeds (idle none same e) p = stays_at (ap (λ xs. at xs p) same) (rw e tt)
+does-at cs ts named again deeds (adds cap room names same e) p = by (length cs + 1 == p.0) refl
   where
-    by : (b : Bool) → b ≡ (length cs + 1 == p.0) → DoesAt cs ts deeds p
+    by : (b : Bool) → b ≡ (length cs + 1 == p.0) → DoesAt cs ts again deeds p
     by true is = let n = next_port cs (fresh cap) p (sym (eqb-true (length cs + 1) p.0 (sym is))) in makes_at cap n.0 (rw same n.1) e
     by false is = stays_at (rw same (other_port cs (fresh cap) p (sym is))) (rw e tt)
-does-at cs ts named deeds (wrote q c d names w m) p = by (q.0 == p.0) refl
+does-at cs ts named again deeds (wrote q c d names w m) p = by (q.0 == p.0) refl
   where
-    by : (b : Bool) → b ≡ (q.0 == p.0) → DoesAt cs ts deeds p
-    by true is = subst (DoesAt cs ts deeds) (same_port q p (eqb-true q.0 p.0 (sym is))) (moves_at c d w.old w.new m)
-    by false is = stays_at (w.others p (sym is)) (elsewhere p q c d deeds (sym is) m)
+    by : (b : Bool) → b ≡ (q.0 == p.0) → DoesAt cs ts again deeds p
+    by true is = subst (DoesAt cs ts again deeds) (same_port q p (eqb-true q.0 p.0 (sym is))) (moves_at c d w.old w.new m)
+    by false is = stays_at (w.others p (sym is)) (elsewhere p q c d again deeds (sym is) m)

@@ -1,18 +1,21 @@
 -- The account of each admitted entry: every step, the stall that can follow it, and a fault.
-use Rattle.hub_laws.proofs.Prelude.{arith, ◌≡◌, Bool, true, false, List, [], ◌∷◌, ◌++◌, refl, ap, ◌∙◌, sym, subst, Option, Some, None, ℕ, append-nil, ◌+◌, not}
+use Rattle.hub_laws.proofs.Prelude.{arith, ◌≡◌, Bool, true, false, List, [], ◌∷◌, ◌++◌, refl, ap, ◌∙◌, sym, subst, Option, Some, None, ℕ, append-nil}
+use Rattle.hub_laws.proofs.Prelude.{◌+◌, not}
 use Rattle.hub_laws.proofs.Prelude.{length, filter, ◌-◌, ◌<◌, map-append, filter_map-append, list_any, AllByRecursion, slice_set, Entry, Step, Close, Exit}
 use Rattle.hub_laws.proofs.Prelude.{Make, Call, Cancel, Event, What, Fault, MOST_PORTS, Pid, Port, is_on, State, Channel, OpenCall, channel_at, Change}
 use Rattle.hub_laws.proofs.Prelude.{◌==◌, without, is_among, cancels, tells, shut}
-use Rattle.hub_laws.proofs.Prelude.{closes, close_fault, fault_of, answers, turn, effect, of_what, IsAnswered, ends_waiting, port_touched_by, Shown, PortSound}
-use Rattle.hub_laws.proofs.Prelude.{all_append, all_more}
+use Rattle.hub_laws.proofs.Prelude.{closes, close_fault, fault_of, answers, turn, effect, of_what, IsAnswered, ends_waiting, port_touched_by, Shown}
+use Rattle.hub_laws.proofs.Prelude.{PortSound}
+use Rattle.hub_laws.proofs.Prelude.{all_append, all_more, Start, Reopen, reopens, reopened, reopen_fault, has_gone, nat_le, leb-true, ◌≤◌, and_parts}
+use Rattle.hub_laws.proofs.Prelude.{or_parts, ◌&&◌, if◌then◌else◌}
 use Rattle.hub_base.specs.declared.fault.Fault.TheVariants as fault
 use Rattle.hub_base.specs.declared.event.What.TheVariants as what
 use Rattle.hub_laws.proofs.Branches.{by-stall, stalled}
 use Rattle.hub_laws.proofs.Calls.{fewer-none, fewer-filter}
-use Rattle.hub_laws.proofs.Deeds.{deed_of, fresh, IsClosing, shuts, idle, adds, wrote, at}
+use Rattle.hub_laws.proofs.Deeds.{deed_of, fresh, IsClosing, shuts, opens, idle, adds, wrote, at}
 use Rattle.hub_laws.proofs.Does.{wrote-set, wrote-moves, made-moves, next_port}
 use Rattle.hub_laws.proofs.Faults.{journaled}
-use Rattle.hub_laws.proofs.Kept.{port-fewer, port-shut, port-fresh}
+use Rattle.hub_laws.proofs.Kept.{port-fewer, port-shut, port-fresh, port-reopened}
 use Rattle.hub_laws.proofs.Leaving.{Ended, event_of, events_of, EndsWell, nobody, next, leave-join, ClosedAt, closed, Sole, sole, all_stalled}
 use Rattle.hub_laws.proofs.Ready.{none_false}
 use Rattle.hub_laws.proofs.Account.{Account, alone, silent, named_sound, with_caller, with_leaver, ended_deeds}
@@ -84,6 +87,35 @@ cancel_account s pid q one =
       gone = refl;
     }
 
+-- A reopen
+
+reopen_can : (s : State) (p : Port) (cap : ℕ) → fault_of s (Reopen p cap) ≡ None → reopen_fault (channel_at s p) ≡ None
+reopen_can s p cap h = grind arith
+
+pub reopen_parts : (c : Channel) → reopen_fault (Some c) ≡ None → (c.closed ≡ true) × (length c.sent ≤ c.received)
+reopen_parts c h = by (c.closed && nat_le (length c.sent) c.received) refl h
+  where
+    by : (b : Bool) → b ≡ (c.closed && nat_le (length c.sent) c.received) → (if b then None else Some fault.InUse) ≡ None →
+        (c.closed ≡ true) × (length c.sent ≤ c.received)
+    by true is h =
+        let parts = and_parts c.closed (nat_le (length c.sent) c.received) (sym is) in
+        (parts.0, leb-true (length c.sent) c.received parts.1)
+    by false is h = cc
+
+reopen_account : (s : State) (pid : Pid) (p : Port) (cap : ℕ) (o : Option Channel) → o ≡ channel_at s p → reopen_fault o ≡ None →
+    Account s pid (Reopen p cap) (reopens s pid p cap o)
+reopen_account s pid p cap None is h = cc
+reopen_account s pid p cap (Some c) is h =
+    let d : Channel = reopened cap c in
+    let ts : List Channel = slice_set s.channels (p.0 - 1) d in
+    let w = wrote-set s p c d (sym is) in
+    let parts = reopen_parts c h in
+    alone s ts pid (Reopen p cap) what.Done refl tt (λ h. cc)
+    (λ sound. wrote p c d refl w (opens cap refl parts.0 parts.1 refl refl)) (λ h. cc)
+    (λ h sound. wrote-moves s.channels ts p c d w (λ same. let g : c.closed ≡ false = ap (λ (x : Shown). x.closed) same in let over = parts.0 in cc))
+    (λ sound. named_sound (Some p) s.channels ts p c d s.parked refl w
+    (port-reopened p c cap s.parked parts.0 parts.1 (sound.ports p c (sym is))))
+
 -- A step that meets no fault
 
 room_for_port : (s : State) (cap : ℕ) → fault_of s (Make cap) ≡ None → length s.channels < MOST_PORTS
@@ -105,6 +137,8 @@ effect-account s pid (Make cap) h =
 effect-account s pid (Call cases default word) h = calls-account s pid cases.items default word
 effect-account s pid (Close p) h = grind (arith, close_account)
 effect-account s pid Exit h = silent s pid Exit what.Done refl (λ h. cc) refl tt refl
+effect-account s pid (Start q) h = silent s pid (Start q) what.Done refl (λ h. cc) refl tt refl
+effect-account s pid (Reopen p cap) h = reopen_account s pid p cap (channel_at s p) refl (reopen_can s p cap h)
 effect-account s pid (Cancel q) h = cancel_account s pid q (sole q s.parked (waits_for s q h))
 
 -- and a stall, which ends all that wait
@@ -146,9 +180,19 @@ stalled_account s pid step c a =
 
 -- a fault changes nothing
 
+pub started_none : (q : Pid) (gone : List Pid) → list_any (λ g. g.0 == q.0) gone ≡ false → filter (λ g. not (g.0 == q.0)) gone ≡ gone
+started_none q [] h = refl
+started_none q (g ∷ gs) h =
+    let f = or_parts (g.0 == q.0) (list_any (λ g. g.0 == q.0) gs) h in
+    rw f.0 (ap (λ xs. g ∷ xs) (started_none q gs f.1))
+
+start_fails : (s : State) (q : Pid) (f : Fault) → fault_of s (Start q) ≡ Some f → has_gone s q.0 ≡ false
+start_fails s q f e = grind arith
+
 no_exit : (s : State) (pid : Pid) (step : Step) (f : Fault) → fault_of s step ≡ Some f →
     with_leaver s.gone pid step ≡ s.gone
 no_exit s pid Exit f e = absurd (let g : ⊥ = cc in g)
+no_exit s pid (Start q) f e = started_none q s.gone (start_fails s q f e)
 no_exit s pid step f e = refl
 
 pub fault_names_none : (step : Step) (f : Fault) → port_touched_by step (what.Fault f) ≡ None

@@ -1,7 +1,10 @@
 -- The account of a call: a case that fires, alone or with an open call, or none.
-use Rattle.hub_laws.proofs.Prelude.{◌≡◌, Bool, true, false, List, [], ◌∷◌, refl, ap, sym, Option, Some, None, ℕ, ◌==◌, ◌+◌, not, length, arith, ◌-◌, ◌<◌, ◌%◌}
-use Rattle.hub_laws.proofs.Prelude.{false_from_ne_true, slice_get_within, list_any, option_map_or, slice_get, is_some, slice_set, Case, Send, Recv, Step, Call}
-use Rattle.hub_laws.proofs.Prelude.{Outcome, Sent, Closed, Got, Drained, Pid, Port, Value, can_proceed, port_of, is_recv_on, first_with, is_send_on, Ending}
+use Rattle.hub_laws.proofs.Prelude.{◌≡◌, Bool, true, false, List, [], ◌∷◌, refl, ap, sym, Option, Some, None, ℕ, ◌==◌, ◌+◌, not, length, arith, ◌-◌}
+use Rattle.hub_laws.proofs.Prelude.{◌<◌, ◌%◌}
+use Rattle.hub_laws.proofs.Prelude.{false_from_ne_true, slice_get_within, list_any, option_map_or, slice_get, is_some, slice_set, Case, Send, Recv}
+use Rattle.hub_laws.proofs.Prelude.{Step, Call}
+use Rattle.hub_laws.proofs.Prelude.{Outcome, Sent, Closed, Got, Drained, Pid, Port, Value, can_proceed, port_of, is_recv_on, first_with, is_send_on}
+use Rattle.hub_laws.proofs.Prelude.{Ending}
 use Rattle.hub_laws.proofs.Prelude.{without, ready, send_can, recv_can, State, Channel, OpenCall, channel_at, calls, after_receive, Firing, after_send}
 use Rattle.hub_laws.proofs.Prelude.{send_meets, send_fires, fired, next_value, fires, proceeds, chooses, outcome_of, with_sent, recv_takes, recv_meets}
 use Rattle.hub_laws.proofs.Prelude.{found_closed, shown, Shown, IsSound, PortSound, some_call}
@@ -34,7 +37,7 @@ module _ (s : State) (pid : Pid) (cases : List Case) (default : Bool) (word i : 
   Fires f = Account s pid this (proceeds s pid i (Some f))
 
   alone_fires : (ts : List Channel) (k : Case) (o : Outcome) (c d : Channel) → slice_get cases i ≡ Some k →
-      Wrote s.channels ts (port_of k) c d → Moved (port_of k) c d (deed k o ∷ []) →
+      Wrote s.channels ts (port_of k) c d → Moved (port_of k) c d None (deed k o ∷ []) →
       (found_closed (what.Fired i o) ≡ true → d ≡ c) → (found_closed (what.Fired i o) ≡ false → shown c ≡ shown d → ⊥) →
       (IsSound s → PortSound (port_of k) d s.parked) →
       Fires (record { outcome = o; state = record s { channels = ts }; ended = [] })
@@ -52,7 +55,7 @@ module _ (s : State) (pid : Pid) (cases : List Case) (default : Bool) (word i : 
       (found_closed (what.Fired i o) ≡ true → IsSound s → test x.at.case ≡ true → ⊥) →
       (found_closed (what.Fired i o) ≡ false → IsSound s → test x.at.case ≡ true → shown c ≡ shown d → ⊥) →
       (IsSound s → test x.at.case ≡ true →
-      Moved (port_of k) c d (deed k o ∷ deed x.at.case its ∷ [])
+      Moved (port_of k) c d None (deed k o ∷ deed x.at.case its ∷ [])
       × ((calls : List OpenCall) → PortSound (port_of k) c calls → PortSound (port_of k) d calls)) →
       Fires (record {
         outcome = o;

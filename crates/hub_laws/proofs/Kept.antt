@@ -1,8 +1,10 @@
 -- Soundness of one port: where calls end or wait, and after each thing that a step does to its channel.
-use Rattle.hub_laws.proofs.Prelude.{◌≡◌, Bool, true, false, List, [], ◌∷◌, ◌++◌, refl, ◌∙◌, sym, Some, ℕ, ◌+◌, not, length, arith, filter, ◌||◌, inl, inr, ◌-◌}
+use Rattle.hub_laws.proofs.Prelude.{◌≡◌, Bool, true, false, List, [], ◌∷◌, ◌++◌, refl, ◌∙◌, sym, Some, ℕ, ◌+◌, not, length, arith, filter, ◌||◌, inl}
+use Rattle.hub_laws.proofs.Prelude.{inr, ◌-◌}
 use Rattle.hub_laws.proofs.Prelude.{◌<◌, nat_lt, or_parts, or_left, or_right, or_from, or_cases, false_from_ne_true, ltb-false, common_steps, list_any}
 use Rattle.hub_laws.proofs.Prelude.{AllByRecursion, is_some, Case, Head, Pid, Port, Value, can_proceed, port_of, is_recv_on, first_with, is_send_on, is_on}
-use Rattle.hub_laws.proofs.Prelude.{State, Channel, OpenCall, channel_at, opening, after_receive, shut, after_send, IsSound, PortSound, some_call, Alone}
+use Rattle.hub_laws.proofs.Prelude.{State, Channel, OpenCall, channel_at, opening, after_receive, shut, reopened, after_send, ◌≤◌, IsSound, PortSound}
+use Rattle.hub_laws.proofs.Prelude.{some_call, Alone}
 use Rattle.hub_laws.proofs.Prelude.{CallFits, Edition}
 use Rattle.hub_laws.proofs.Calls.{Fewer, fewer-filter, first-some, any_snoc, alone_snoc}
 use Rattle.hub_laws.proofs.Deeds.{fresh}
@@ -100,6 +102,21 @@ port-shut p c calls f =
       senders = λ h. absurd (let g : some_call (is_send_on p) kept ≡ true = h in cc);
       ended = λ h. (recvs, sends);
       alone = (fewer-filter (λ call. not (list_any (is_on p) call.cases)) calls).alone p f.alone;
+    }
+
+-- a reopen
+
+pub port-reopened : (p : Port) (c : Channel) (cap : ℕ) (calls : List OpenCall) → c.closed ≡ true → length c.sent ≤ c.received →
+    PortSound p c calls → PortSound p (reopened cap c) calls
+port-reopened p c cap calls over drained f =
+    let none = f.ended over in
+    record {
+      received = f.received;
+      fits = omega (arith, f.received, drained);
+      receivers = λ h. omega (arith, f.received, drained);
+      senders = λ h. absurd (let g = none.1 in let k : ⊥ = cc in k);
+      ended = λ h. absurd (let k : ⊥ = cc in k);
+      alone = f.alone;
     }
 
 -- a make

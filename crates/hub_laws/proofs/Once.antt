@@ -1,6 +1,7 @@
 -- Each admitted call has at most one event besides `Parked`.
-use Rattle.hub_laws.proofs.Prelude.{common_steps, ◌≡◌, Bool, true, false, List, [], ◌∷◌, ◌++◌, refl, ap, ◌∙◌, Some, ℕ, ◌==◌, ◌+◌, ◌≤◌, cond, not, length}
-use Rattle.hub_laws.proofs.Prelude.{arith, ◌&&◌, inl, inr, ◌<◌, AllByRecursion, Entry, Step, Exit, Event, Fault, Head, is_exit, admits, moves, State, opening}
+use Rattle.hub_laws.proofs.Prelude.{common_steps, ◌≡◌, Bool, true, false, List, [], ◌∷◌, ◌++◌, refl, ap, Some, ℕ, ◌==◌, ◌+◌, ◌≤◌, cond, not, length}
+use Rattle.hub_laws.proofs.Prelude.{arith, ◌&&◌, inl, inr, ◌<◌, AllByRecursion, Entry, Step, Exit, Event, Fault, Head, is_exit, admits, moves, State}
+use Rattle.hub_laws.proofs.Prelude.{opening}
 use Rattle.hub_laws.proofs.Prelude.{Change, tells, refusal, turn, has_gone, turns_after, IsAnswered, ends_waiting, refuses_entry, counts, endings, is_call}
 use Rattle.hub_laws.proofs.Prelude.{was_admitted, ends_call, endings_until, EndsOnce, AtMostOnce, IsSound}
 use Rattle.hub_base.specs.declared.event.What.TheVariants as what
@@ -73,7 +74,7 @@ until_most q s (e ∷ es) sound below here =
     (λ is. until_admitted q s e (endings_until q (turns_after (turn s e).state es)) (was_admitted (turn s e).events) (e.pid.0 == q)
     (turn-admitted s e) refl sound (λ m.
     let procs = procs-of (turn-account s e).head in
-    until_most q (turn s e).state es (turn-sound s e sound is) (omega (arith, procs)) (turn-gone q s e (inr m) ∙ here)))
+    until_most q (turn s e).state es (turn-sound s e sound is) (omega (arith, procs)) (turn-gone q s e (inr m) here)))
     (λ f is. until_refused q s e f (endings_until q (turns_after s es)) is below here (until_most q s es sound below here))
 
 -- Runs
@@ -87,8 +88,8 @@ once_by : (s : State) (e : Entry) (es : List Entry) → IsSound s → is_call e.
 once_by s e es sound call = by-refusal (λ o. let c : Change = admits s e o in was_admitted c.events ≡ true →
     EndsOnce (endings e.pid.0 c.events ++ endings_until e.pid.0 (turns_after c.state es))) s e.pid (λ is adm.
     let a = admitted s e.pid is in
-    let gone = turn-gone e.pid.0 s e (inl (call_stays e.step call)) in
-    let rest = until_most e.pid.0 (turn s e).state es (turn-sound s e sound is) (omega (arith, procs-of (turn-account s e).head, a.below)) (gone ∙ a.here) in
+    let gone = turn-gone e.pid.0 s e (inl (call_stays e.step call)) a.here in
+    let rest = until_most e.pid.0 (turn s e).state es (turn-sound s e sound is) (omega (arith, procs-of (turn-account s e).head, a.below)) gone in
     let bal : ends e.pid.0 (turn s e).events + open_calls e.pid.0 (turn s e).state.parked ≡ open_calls e.pid.0 s.parked + 1 =
     rw (same_number e.pid.0) at (turn-balance e.pid.0 s e sound) in
     let one : ends e.pid.0 (turn s e).events + open_calls e.pid.0 (turn s e).state.parked ≤ 1 = omega (arith, bal, open_none e.pid.0 s.parked a.free) in

@@ -1,7 +1,8 @@
 -- One entry writes at most the port that its answer names.
 use Rattle.hub_laws.proofs.Prelude.{arith, ◌≡◌, Bool, true, false, List, [], ◌∷◌, ◌++◌, refl, ap, ◌∙◌, sym, subst, Option, Some, None, ◌==◌, cond, length}
 use Rattle.hub_laws.proofs.Prelude.{option_map, option_map_or, Entry, Fault, Head, Port, admits, moves, state, State, channel_at, opening, refusal, turn}
-use Rattle.hub_laws.proofs.Prelude.{port_touched_by, found_closed, shown, port_touched, is_port, IsMade, port_changed, OnePortLaw, IsSound}
+use Rattle.hub_laws.proofs.Prelude.{port_touched_by, found_closed, shown, port_touched, is_port, IsMade, port_changed, OnePortLaw, IsSound, opened}
+use Rattle.hub_laws.proofs.Prelude.{opened_by}
 use Rattle.hub_laws.proofs.Account.{deeds_of}
 use Rattle.hub_laws.proofs.Entries.{fault_names_none, turn-account}
 use Rattle.hub_laws.proofs.Deeds.{Deed, Does, at, idle}
@@ -11,11 +12,12 @@ use Rattle.hub_laws.proofs.Rules.{state-sound}
 
 -- what an entry does to the channels, in a sound state
 pub moves-does : (s : State) (e : Entry) (o : Option Fault) → IsSound s →
-    (deeds : List Deed) × Does s.channels (admits s e o).state.channels (port_touched e.step (admits s e o).events) deeds
+    (deeds : List Deed) × Does s.channels (admits s e o).state.channels (port_touched e.step (admits s e o).events) (opened e.step (admits s e o).events) deeds
 moves-does s e None sound =
     let a = turn-account s e in
     let named : port_touched e.step (turn s e).events ≡ port_touched_by e.step a.answer = ap (port_touched e.step) a.told in
-    (deeds_of e.step a.answer a.ended, rw named (a.does sound))
+    let back : opened e.step (turn s e).events ≡ opened_by e.step a.answer = ap (opened e.step) a.told in
+    (deeds_of e.step a.answer a.ended, rw (named, back) (a.does sound))
 moves-does s e (Some f) sound = ([], idle (fault_names_none e.step f) refl refl)
 
 -- and which of them it leaves as they are
@@ -31,7 +33,8 @@ moves-leaves s e None sound p h =
     by true is h = (turn-account s e).still (sym is) sound p
     by false is h =
         let a = turn-account s e in
-        does-others s.channels (turn s e).state.channels (port_touched_by e.step a.answer) (deeds_of e.step a.answer a.ended) (a.does sound) p h
+        does-others s.channels (turn s e).state.channels (port_touched_by e.step a.answer) (opened_by e.step a.answer)
+        (deeds_of e.step a.answer a.ended) (a.does sound) p h
 moves-leaves s e (Some f) sound p h = refl
 
 -- and that the one which it changes shows something else
@@ -64,7 +67,7 @@ one_port-law head es e =
     record {
       made = λ p h.
           subst (λ (s : State). IsMade p (length s.channels)) (sym after)
-          (does-made s.channels (moves s e).state.channels named d.0 d.1 p h);
+          (does-made s.channels (moves s e).state.channels named (opened e.step (moves s e).events) d.0 d.1 p h);
       others = others;
       numbers = λ p h. others p (other_number changed p h);
       moved = λ p h same.

@@ -1,8 +1,11 @@
 -- The events of an admitted entry are replies.
-use Rattle.hub_laws.proofs.Prelude.{◌≡◌, Bool, true, false, List, [], ◌∷◌, ◌++◌, refl, ap, ◌∙◌, sym, subst, Some, None, ℕ, ◌==◌, zero, suc, append-nil, ◌+◌}
-use Rattle.hub_laws.proofs.Prelude.{◌≤◌, not, length, arith, ◌&&◌, filter, nat_lt, and-false, or_parts, common_steps, AllByRecursion, slice_get, Entry, Event}
+use Rattle.hub_laws.proofs.Prelude.{◌≡◌, Bool, true, false, List, [], ◌∷◌, ◌++◌, refl, ap, ◌∙◌, sym, subst, Some, None, ℕ, ◌==◌, zero, suc}
+use Rattle.hub_laws.proofs.Prelude.{append-nil, ◌+◌}
+use Rattle.hub_laws.proofs.Prelude.{◌≤◌, not, length, arith, ◌&&◌, filter, nat_lt, and-false, or_parts, common_steps, AllByRecursion, slice_get}
+use Rattle.hub_laws.proofs.Prelude.{Entry, Event}
 use Rattle.hub_laws.proofs.Prelude.{Head, Pid, admits, moves, state, State, OpenCall, refusal, is_waiting, IsAnswered, ends_waiting, endings, is_parked}
-use Rattle.hub_laws.proofs.Prelude.{last_from, reply, told_to, is_told, IsReply, IsLeft, AreReplied, RepliedLaw, IsSound, is_among}
+use Rattle.hub_laws.proofs.Prelude.{last_from, reply, told_to, is_told, IsReply, IsLeft, AreReplied, RepliedLaw, IsSound, is_among, eqb-true}
+use Rattle.hub_laws.proofs.Leaving.{one}
 use Rattle.hub_laws.proofs.Calls.{same_number}
 use Rattle.hub_laws.proofs.Ready.{admitted}
 use Rattle.hub_laws.proofs.Rules.{state-sound}
@@ -23,7 +26,16 @@ moves-balance q s e sound is = subst (λ o. Balance q s e.pid (admits s e o)) (s
 
 -- after an admitted entry a process was told at most one event that counts, and then it does not wait
 one_told : (q : ℕ) (s : State) (e : Entry) → IsSound s → refusal s e.pid ≡ None → ends q (moves s e).events + open_calls q (moves s e).state.parked ≤ 1
-one_told q s e sound is = grind (arith, open_none, moves-balance, open_most)
+one_told q s e sound is = by (e.pid.0 == q) refl (moves-balance q s e sound is)
+  where
+    by : (b : Bool) → b ≡ (e.pid.0 == q) →
+        ends q (moves s e).events + open_calls q (moves s e).state.parked ≡ open_calls q s.parked + one b →
+        ends q (moves s e).events + open_calls q (moves s e).state.parked ≤ 1
+    by true same bal =
+        let none : open_calls e.pid.0 s.parked ≡ 0 = open_none e.pid.0 s.parked (admitted s e.pid is).free in
+        let here : open_calls q s.parked ≡ 0 = subst (λ (n : ℕ). open_calls n s.parked ≡ 0) (eqb-true e.pid.0 q (sym same)) none in
+        omega (arith, bal, here)
+    by false same bal = omega (arith, bal, open_most q s.parked sound.apart)
 
 -- What a process is told is what counts
 

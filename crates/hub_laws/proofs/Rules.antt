@@ -1,12 +1,15 @@
 -- Each admitted entry keeps soundness.
 use Rattle.hub_laws.proofs.Prelude.{common_steps, ◌≡◌, Bool, true, false, List, [], ◌∷◌, ◌++◌, refl, ap, ◌∙◌, sym, subst, Option, Some, None, ℕ, ◌==◌, ◌≤◌}
 use Rattle.hub_laws.proofs.Prelude.{cond, length, arith, inl, inr, ◌<◌, eqb-true, or_cases, list_any, Entry, Step, Call, What, Fault, Head, Pid, Port}
-use Rattle.hub_laws.proofs.Prelude.{can_proceed, admits, moves, state_after, state, State, Channel, OpenCall, channel_at, opening, Change, fault_of, answers}
+use Rattle.hub_laws.proofs.Prelude.{can_proceed, admits, moves, state_after, state, State, Channel, OpenCall, channel_at, opening, Change, fault_of}
+use Rattle.hub_laws.proofs.Prelude.{answers}
 use Rattle.hub_laws.proofs.Prelude.{refusal, turn, effect, has_gone, is_waiting, cases_or, is_answer_to, port_touched_by, is_port, is_parked, IsSound}
+use Rattle.hub_laws.proofs.Prelude.{opened_by, is_start_of, is_exit, Exit, Make, Close, Cancel, Start, Reopen, ◌⊎◌}
 use Rattle.hub_laws.proofs.Prelude.{PortSound, is_among, CallFits, Edition, AllByRecursion, all_more, all_snoc}
 use Rattle.hub_laws.proofs.Account.{Account, NamedSound, call_of, deeds_of, with_caller, with_leaver, procs-of}
 use Rattle.hub_laws.proofs.Entries.{answers-account, effect-account}
 use Rattle.hub_laws.proofs.Calls.{Fewer, any_snoc, apart_snoc}
+use Rattle.hub_laws.proofs.Gone.{leaves-by, still-here}
 use Rattle.hub_laws.proofs.Deeds.{Deed, at}
 use Rattle.hub_laws.proofs.Does.{does-grows, does-others}
 use Rattle.hub_laws.proofs.Kept.{any_more, port-fewer, port-parks, sound-opening}
@@ -51,7 +54,21 @@ fits_more edition n m call h f = grind (arith, any_more)
 none_left : (q : ℕ) (s : State) (pid : Pid) (step : Step) (w : What) → Admitted s pid → is_answer_to step w ≡ true →
     is_among q (with_caller s.parked pid step w) ≡ true → has_gone s q ≡ false →
     list_any (λ g. g.0 == q) (with_leaver s.gone pid step) ≡ false
-none_left q s pid step w adm fits among here = grind (arith, common_steps)
+none_left q s pid step w adm fits among here =
+    leaves-by q s.gone pid step ∙ still-here (has_gone s q) (is_start_of q step) (is_exit step) (pid.0 == q) here (by step fits among)
+  where
+    exits_alone : is_answer_to Exit w ≡ true → is_among q (with_caller s.parked pid Exit w) ≡ true → (pid.0 == q) ≡ false
+    exits_alone fits among = grind (arith, common_steps)
+
+    by : (step : Step) → is_answer_to step w ≡ true → is_among q (with_caller s.parked pid step w) ≡ true →
+        (is_exit step ≡ false) ⊎ ((pid.0 == q) ≡ false)
+    by Exit fits among = inr (exits_alone fits among)
+    by (Make cap) fits among = inl refl
+    by (Call cases default word) fits among = inl refl
+    by (Close p) fits among = inl refl
+    by (Cancel r) fits among = inl refl
+    by (Start r) fits among = inl refl
+    by (Reopen p cap) fits among = inl refl
 
 -- each port: the one that the answer names, or one that is as it was
 port_sound : (s t : State) (named : Option Port) (calls : List OpenCall) (p : Port) (x : Channel) →
@@ -73,10 +90,11 @@ account_sound : (s : State) (pid : Pid) (step : Step) (c : Change) → IsSound s
     fault_of s step ≡ None → Account s pid step c → IsSound c.state
 account_sound s pid step c sound adm h a =
     let named : Option Port = port_touched_by step a.answer in
+    let back : Option Port = opened_by step a.answer in
     let deeds : List Deed = deeds_of step a.answer a.ended in
     let waiting : List OpenCall = with_caller s.parked pid step a.answer in
     let before : IsSound (record s { parked = waiting }) = caller_sound s pid step a.answer sound adm h a.blocked in
-    let grows = does-grows s.channels c.state.channels named deeds (a.does sound) in
+    let grows = does-grows s.channels c.state.channels named back deeds (a.does sound) in
     record {
       apart = a.fewer.apart before.apart;
       present = λ q w.
@@ -90,7 +108,7 @@ account_sound s pid step c sound adm h a =
           (λ call. fits_more s.head.edition (length s.channels) (length c.state.channels) call grows)
           (a.fewer.each s.head.edition (length s.channels) before.calls));
       ports = λ p x e.
-          let others = does-others s.channels c.state.channels named deeds (a.does sound) in
+          let others = does-others s.channels c.state.channels named back deeds (a.does sound) in
           port_sound s c.state named waiting p x (a.sound sound) others (before.ports p) a.fewer e;
     }
 

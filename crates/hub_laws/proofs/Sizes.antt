@@ -1,7 +1,10 @@
 -- One step tells no more events than there are processes, and one.
-use Rattle.hub_laws.proofs.Prelude.{common_steps, ◌≡◌, true, List, [], ◌∷◌, refl, ap, subst, Option, Some, None, ℕ, ◌==◌, ◌+◌, ◌≤◌, length, arith, inl, inr}
-use Rattle.hub_laws.proofs.Prelude.{◌<◌, eqb-true, or_cases, length-map, Entry, Step, Close, Call, Cancel, What, Head, Pid, Port, admits, moves, state, State}
+use Rattle.hub_laws.proofs.Prelude.{common_steps, ◌≡◌, true, List, [], ◌∷◌, refl, ap, subst, Option, Some, None, ℕ, ◌==◌, ◌+◌, ◌≤◌, length, arith}
+use Rattle.hub_laws.proofs.Prelude.{inl, inr}
+use Rattle.hub_laws.proofs.Prelude.{◌<◌, eqb-true, or_cases, length-map, Entry, Step, Close, Call, Cancel, What, Head, Pid, Port, admits, moves}
+use Rattle.hub_laws.proofs.Prelude.{state, State}
 use Rattle.hub_laws.proofs.Prelude.{Channel, OpenCall, channel_at, opening, calls, Change, closes, turn, effect, Apart, IsSound, is_among, without}
+use Rattle.hub_laws.proofs.Prelude.{Reopen, reopens}
 use Rattle.hub_laws.proofs.Account.{Account, with_caller, procs-of}
 use Rattle.hub_laws.proofs.Entries.{turn-account}
 use Rattle.hub_laws.proofs.Firing.{calls-account}
@@ -49,6 +52,10 @@ closes_size s pid p (Some c) =
     let left = left_length parts.ended s.parked (closes s pid p (Some c)).state.parked parts.leaves in
     omega (arith, ap length parts.told, left)
 
+reopens_size : (s : State) (pid : Pid) (p : Port) (cap : ℕ) (o : Option Channel) → Size s (reopens s pid p cap o)
+reopens_size s pid p cap None = omega arith
+reopens_size s pid p cap (Some c) = omega arith
+
 kept_length : (q : Pid) (calls : List OpenCall) → length (without q calls) ≤ length calls
 kept_length q [] = omega arith
 kept_length q (call ∷ calls) = grind (arith, common_steps, kept_length q calls)
@@ -59,6 +66,7 @@ effect_size s pid (Call cases default word) sound =
     let a = calls-account s pid cases.items default word in
     size s pid (Call cases default word) (calls s pid cases.items default word) sound.apart a
 effect_size s pid (Close p) sound = closes_size s pid p (channel_at s p)
+effect_size s pid (Reopen p cap) sound = reopens_size s pid p cap (channel_at s p)
 effect_size s pid (Cancel q) sound = omega (arith, kept_length q s.parked)
 effect_size s pid step sound = omega arith
 

@@ -1,6 +1,7 @@
 -- What the deeds of a step add to what was sent and to what was received.
 use Rattle.hub_laws.proofs.Prelude.{arith, ◌≡◌, false, List, [], ◌∷◌, ◌++◌, refl, ap, sym, Option, Some, None, ℕ, ◌==◌, append-nil, ◌+◌, ◌≤◌, length, take}
-use Rattle.hub_laws.proofs.Prelude.{take-suc, take-append-le, get_or_from_slice_get, slice_get_within, AllByRecursion, cons_option, option_map_or, slice_get}
+use Rattle.hub_laws.proofs.Prelude.{take-suc, take-append-le, get_or_from_slice_get, slice_get_within, AllByRecursion, cons_option, option_map_or}
+use Rattle.hub_laws.proofs.Prelude.{slice_get}
 use Rattle.hub_laws.proofs.Prelude.{Case, Send, Recv, Event, Outcome, Sent, Got, What, Pid, Port, Value, port_of, Channel, after_receive, after_send}
 use Rattle.hub_laws.proofs.Prelude.{closing_outcome, next_value, of_what, got_on, sent_on, received_from}
 use Rattle.hub_base.specs.declared.event.What.TheVariants as what
@@ -44,13 +45,13 @@ abbrev pub total : {A : Type 0} → (Channel → List A) → List Channel → Po
 total f cs p = option_map_or f (at cs p) []
 
 pub total-does : {A : Type 0} (f : Channel → List A) (pick : Option Case → Outcome → Option A) (cs ts : List Channel)
-    (deeds : List Deed) (p : Port) → DoesAt cs ts deeds p → ((cap : ℕ) → f (fresh cap) ≡ []) →
+    (again : Option Port) (deeds : List Deed) (p : Port) → DoesAt cs ts again deeds p → ((cap : ℕ) → f (fresh cap) ≡ []) →
     ((k : Case) (o : Outcome) → ((port_of k).0 == p.0) ≡ false → pick (Some k) o ≡ None) →
-    ((c d : Channel) → at cs p ≡ Some c → Moved p c d deeds → f d ≡ f c ++ picks pick deeds) →
+    ((c d : Channel) → at cs p ≡ Some c → Moved p c d again deeds → f d ≡ f c ++ picks pick deeds) →
     total f ts p ≡ total f cs p ++ picks pick deeds
-total-does f pick cs ts deeds p (stays_at same off) empty none here = rw (same, others-none pick p deeds none off) (sym (append-nil (total f cs p)))
-total-does f pick cs ts deeds p (makes_at cap before after e) empty none here = rw (before, after, e) (empty cap)
-total-does f pick cs ts deeds p (moves_at c d old new m) empty none here = rw (old, new) (here c d old m)
+total-does f pick cs ts again deeds p (stays_at same off) empty none here = rw (same, others-none pick p deeds none off) (sym (append-nil (total f cs p)))
+total-does f pick cs ts again deeds p (makes_at cap before after e) empty none here = rw (before, after, e) (empty cap)
+total-does f pick cs ts again deeds p (moves_at c d old new m) empty none here = rw (old, new) (here c d old m)
 
 -- Sent
 
@@ -58,13 +59,14 @@ sent_none : (p : Port) (k : Case) (o : Outcome) → ((port_of k).0 == p.0) ≡ f
 sent_none p (Send q v) Sent e = rw e refl
 sent_none p k o e = refl
 
-sent_here : (p : Port) (c d : Channel) (deeds : List Deed) → Moved p c d deeds → d.sent ≡ c.sent ++ picks (sent_on p) deeds
-sent_here p c d deeds x4 = grind (arith, append-nil, closing-none)
+sent_here : (p : Port) (c d : Channel) (again : Option Port) (deeds : List Deed) → Moved p c d again deeds → d.sent ≡ c.sent ++ picks (sent_on p) deeds
+sent_here p c d again deeds x4 = grind (arith, append-nil, closing-none)
 
-pub sent-does : (cs ts : List Channel) (named : Option Port) (deeds : List Deed) (p : Port) → Does cs ts named deeds →
+pub sent-does : (cs ts : List Channel) (named again : Option Port) (deeds : List Deed) (p : Port) → Does cs ts named again deeds →
     total (λ c. c.sent) ts p ≡ total (λ c. c.sent) cs p ++ picks (sent_on p) deeds
-sent-does cs ts named deeds p does =
-    total-does (λ c. c.sent) (sent_on p) cs ts deeds p (does-at cs ts named deeds does p) (λ cap. refl) (sent_none p) (λ c d e m. sent_here p c d deeds m)
+sent-does cs ts named again deeds p does =
+    total-does (λ c. c.sent) (sent_on p) cs ts again deeds p (does-at cs ts named again deeds does p) (λ cap. refl) (sent_none p)
+    (λ c d e m. sent_here p c d again deeds m)
 
 -- Received
 
@@ -83,13 +85,13 @@ pub through : (v w : Value) (c d : Channel) → c.received ≤ length c.sent →
     → d ≡ after_receive (after_send v c) → received_from d ≡ received_from c ++ w ∷ []
 through v w c d fits next is = grind (arith, take_next (c.sent ++ v ∷ []) c.received w next, take-append-le c.received c.sent (v ∷ []) fits)
 
-got_here : (p : Port) (c d : Channel) (deeds : List Deed) → c.received ≤ length c.sent → Moved p c d deeds
+got_here : (p : Port) (c d : Channel) (again : Option Port) (deeds : List Deed) → c.received ≤ length c.sent → Moved p c d again deeds
     → received_from d ≡ received_from c ++ picks (got_on p) deeds
-got_here p c d deeds fits x5 = grind (arith, take-append-le, append-nil, through, take_next, closing-none)
+got_here p c d again deeds fits x5 = grind (arith, take-append-le, append-nil, through, take_next, closing-none)
 
-pub got-does : (cs ts : List Channel) (named : Option Port) (deeds : List Deed) (p : Port) →
-    ((c : Channel) → at cs p ≡ Some c → c.received ≤ length c.sent) → Does cs ts named deeds →
+pub got-does : (cs ts : List Channel) (named again : Option Port) (deeds : List Deed) (p : Port) →
+    ((c : Channel) → at cs p ≡ Some c → c.received ≤ length c.sent) → Does cs ts named again deeds →
     total (λ c. take c.received c.sent) ts p ≡ total (λ c. take c.received c.sent) cs p ++ picks (got_on p) deeds
-got-does cs ts named deeds p fits does =
-    total-does received_from (got_on p) cs ts deeds p (does-at cs ts named deeds does p) (λ cap. refl) (got_none p)
-    (λ c d e m. got_here p c d deeds (fits c e) m)
+got-does cs ts named again deeds p fits does =
+    total-does received_from (got_on p) cs ts again deeds p (does-at cs ts named again deeds does p) (λ cap. refl) (got_none p)
+    (λ c d e m. got_here p c d again deeds (fits c e) m)

@@ -1,7 +1,9 @@
 -- One entry of a run: what it does to the channels, and which cases are then in force.
-use Rattle.hub_laws.proofs.Prelude.{arith, ◌≡◌, true, false, List, [], ◌∷◌, ◌++◌, refl, ap, ◌∙◌, ℕ, ◌==◌, cond, or_parts, AllByRecursion, cons_option, Case}
-use Rattle.hub_laws.proofs.Prelude.{Entry, Step, What, Pid, admits, moves, State, OpenCall, Change, tells, turn, cases_or, of_what, Turned, is_fault, refused}
-use Rattle.hub_laws.proofs.Prelude.{latest, last_call, is_answer_to, port_touched_by, port_touched, is_parked, IsSound, is_among}
+use Rattle.hub_laws.proofs.Prelude.{arith, ◌≡◌, true, false, List, [], ◌∷◌, ◌++◌, refl, ap, ◌∙◌, ℕ, ◌==◌, cond, or_parts, AllByRecursion, cons_option}
+use Rattle.hub_laws.proofs.Prelude.{Case}
+use Rattle.hub_laws.proofs.Prelude.{Entry, Step, What, Pid, admits, moves, State, OpenCall, Change, tells, turn, cases_or, of_what, Turned, is_fault}
+use Rattle.hub_laws.proofs.Prelude.{refused}
+use Rattle.hub_laws.proofs.Prelude.{latest, last_call, is_answer_to, port_touched_by, port_touched, is_parked, IsSound, is_among, opened, opened_by}
 use Rattle.hub_base.specs.declared.event.What.TheVariants as what
 use Rattle.hub_laws.proofs.Account.{account-all, deeds_of, ended_deeds}
 use Rattle.hub_laws.proofs.Entries.{fault_names_none, turn-account}
@@ -48,7 +50,7 @@ in_force ts pid = last_call pid [] ts
 
 -- what a turn does to the channels, by its events and the cases that are then in force
 pub record TurnLaws (s : State) (step : Step) (c : Change) (now : Pid → List Case) : Type 0 where
-  pub does : Does s.channels c.state.channels (port_touched step c.events) (told deed_of now c.events)
+  pub does : Does s.channels c.state.channels (port_touched step c.events) (opened step c.events) (told deed_of now c.events)
   pub knows : Knows now c.state.parked
 
 -- what the events of the calls that end tell
@@ -87,7 +89,8 @@ turn_turn s e ts sound adm knows =
     ∙ ap (λ d. cons_option d (told deed_of now (events_of a.ended))) (told_own (now e.pid) before e.step a.answer a.fits mine)
     ∙ ap (λ ds. cons_option (of_what deed_of (cases_or e.step []) a.answer) ds) (told_ended now a.ended all.0) in
     let named : port_touched e.step (turn s e).events ≡ port_touched_by e.step a.answer = ap (port_touched e.step) a.told in
-    record { does = rw (named, deeds) (a.does sound); knows = all.1 }
+    let back : opened e.step (turn s e).events ≡ opened_by e.step a.answer = ap (opened e.step) a.told in
+    record { does = rw (named, back, deeds) (a.does sound); knows = all.1 }
 
 -- an entry that is not admitted changes nothing
 pub moves-turn : (s : State) (e : Entry) (ts : List Turned) → IsSound s → Knows (in_force ts) s.parked →

@@ -1,7 +1,9 @@
 -- The values received, and then those in the buffer, are the values sent.
-use Rattle.hub_laws.proofs.Prelude.{arith, ◌≡◌, List, [], ◌∷◌, ◌++◌, refl, ap, ◌∙◌, sym, Option, Some, append-nil, append_assoc, take, take-append-drop, Case}
-use Rattle.hub_laws.proofs.Prelude.{Entry, Outcome, Head, Port, moves, state_after, state, State, Channel, channel_at, opening, buffer_of, Turned, turns_after}
-use Rattle.hub_laws.proofs.Prelude.{values_from, got_on, received_values, sent_on, sent_values, port_touched, IsSound}
+use Rattle.hub_laws.proofs.Prelude.{arith, ◌≡◌, List, [], ◌∷◌, ◌++◌, refl, ap, ◌∙◌, sym, Option, Some, append-nil, append_assoc, take}
+use Rattle.hub_laws.proofs.Prelude.{take-append-drop, Case}
+use Rattle.hub_laws.proofs.Prelude.{Entry, Outcome, Head, Port, moves, state_after, state, State, Channel, channel_at, opening, buffer_of, Turned}
+use Rattle.hub_laws.proofs.Prelude.{turns_after}
+use Rattle.hub_laws.proofs.Prelude.{values_from, got_on, received_values, sent_on, sent_values, opened, port_touched, IsSound}
 use Rattle.hub_laws.proofs.Deeds.{Knows, deed_of, told, at}
 use Rattle.hub_laws.proofs.Kept.{sound-opening}
 use Rattle.hub_laws.proofs.Rules.{moves-sound}
@@ -25,7 +27,7 @@ pub sent-after : (s : State) (ts : List Turned) (es : List Entry) (p : Port) →
     total (λ c. c.sent) (state_after s es).channels p ≡ total (λ c. c.sent) s.channels p ++ values_from (sent_on p) ts (turns_after s es)
 sent-after s ts es p = grows (λ c. c.sent) (sent_on p) p (λ s e ts sound knows.
     let t : Turned = record { entry = e; events = (moves s e).events } in
-    sent-does s.channels (moves s e).state.channels (port_touched e.step (moves s e).events)
+    sent-does s.channels (moves s e).state.channels (port_touched e.step (moves s e).events) (opened e.step (moves s e).events)
     (told deed_of (in_force (ts ++ t ∷ [])) (moves s e).events) p (moves-turn s e ts sound knows).does
     ∙ ap (λ xs. total (λ c. c.sent) s.channels p ++ xs) (sym (told-picks (sent_on p) (in_force (ts ++ t ∷ [])) (moves s e).events (λ o. refl)))) s ts es
 
@@ -34,7 +36,7 @@ pub got-after : (s : State) (ts : List Turned) (es : List Entry) (p : Port) → 
     ≡ total (λ c. take c.received c.sent) s.channels p ++ values_from (got_on p) ts (turns_after s es)
 got-after s ts es p = grows (λ c. take c.received c.sent) (got_on p) p (λ s e ts sound knows.
     let t : Turned = record { entry = e; events = (moves s e).events } in
-    got-does s.channels (moves s e).state.channels (port_touched e.step (moves s e).events)
+    got-does s.channels (moves s e).state.channels (port_touched e.step (moves s e).events) (opened e.step (moves s e).events)
     (told deed_of (in_force (ts ++ t ∷ [])) (moves s e).events) p (λ c h. (sound.ports p c h).received) (moves-turn s e ts sound knows).does
     ∙ ap (λ xs. total (λ c. take c.received c.sent) s.channels p ++ xs)
     (sym (told-picks (got_on p) (in_force (ts ++ t ∷ [])) (moves s e).events (λ o. refl)))) s ts es

@@ -1,7 +1,8 @@
--- After a close no case on the port is sent, and its receivers drain the buffer, then learn of the
--- close: from entries and events alone, but for the buffer that the close left.
+-- After a close, and until the port is opened again, no case on it is sent, and its receivers drain the buffer, then
+-- learn of the close: from entries and events alone, but for the buffer that the close left.
 -- Go: "Close", "Receive operator".
 use Rattle.std.specs.Prelude.{◌≡◌, ◌==◌, Bool, true, false, List, [], ◌∷◌, ◌++◌, Option, Some, None, if◌then◌else◌}
+use Rattle.std.specs.List.{list_any}
 use Rattle.hub_base.specs.declared.value.Port.{Port}
 use Rattle.hub_base.specs.declared.value.Pid.{Pid}
 use Rattle.hub_base.specs.declared.value.Value.{Value}
@@ -18,7 +19,9 @@ use Rattle.hub_base.specs.declared.event.What.TheVariants as what
 use Rattle.hub_base.specs.State.{Channel, channel_at, opening, buffer_of}
 use Rattle.hub_base.specs.Ready.{port_of}
 use Rattle.hub_base.specs.Runs.{state, moves}
-use Rattle.hub_base.specs.Values.{turns_after, values_from}
+use Rattle.hub_base.specs.Head.{AreOf, has_lives}
+use Rattle.hub_base.specs.Values.{Turned, turns_after, values_from}
+use Rattle.hub_laws.specs.OnePort.{is_port, opened}
 
 -- the cases on p that were answered `Sent`
 abbrev pub sent_at : Port → Option Case → Outcome → Option Case
@@ -60,11 +63,21 @@ pub record StaysClosed (h : Head) (es fs : List Entry) (p : Port) : Type 0 where
   pub sent : told_later (sent_at p) h es fs ≡ []
   pub heard : Drains (buffer_of left) (told_later (heard p) h es fs)
 
+-- one of these turns opens the port again
+abbrev pub opens_again : Port → List Turned → Bool
+opens_again p ts = list_any (λ t. is_port (opened t.entry.step t.events) p) ts
+
 abbrev pub close_by : Pid → Port → Entry
 close_by pid p = record { pid = pid; step = Close p }
 
--- after a close that was answered `Done`, whatever entries follow
+-- after a close that was answered `Done`, whatever entries follow that do not open the port again
 abbrev pub AfterCloseLaw : Head → List Entry → Pid → Port → List Entry → Type 0
 AfterCloseLaw h es pid p fs =
     answers_done (moves (state h es) (close_by pid p)).events ≡ true →
+    opens_again p (turns_after (state h (es ++ close_by pid p ∷ [])) fs) ≡ false →
     StaysClosed h (es ++ close_by pid p ∷ []) fs p
+
+-- in an edition without reopens no port is opened again
+abbrev pub NeverOpensLaw : Head → List Entry → Port → List Entry → Type 0
+NeverOpensLaw h es p fs =
+    has_lives h.edition ≡ false → AreOf h.edition fs → opens_again p (turns_after (state h es) fs) ≡ false

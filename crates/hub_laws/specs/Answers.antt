@@ -4,7 +4,7 @@ use Rattle.std.specs.Prelude.{◌≡◌, Bool, true, false, List, [], ◌∷◌,
 use Rattle.std.specs.List.{AllByRecursion}
 use Rattle.hub_base.specs.declared.value.Pid.{Pid}
 use Rattle.hub_base.specs.Entry.{Entry, Step}
-use Rattle.hub_base.specs.declared.entry.Step.TheVariants.{Make, Call, Close, Exit, Cancel}
+use Rattle.hub_base.specs.declared.entry.Step.TheVariants.{Make, Call, Close, Exit, Cancel, Start, Reopen}
 use Rattle.hub_base.specs.declared.head.Head.{Head}
 use Rattle.hub_base.specs.declared.fault.Fault.{Fault}
 use Rattle.hub_base.specs.declared.event.What.{What}
@@ -24,6 +24,8 @@ is_answer_to (Call cases default word) what.Parked = true
 is_answer_to (Close p) what.Done = true
 is_answer_to Exit what.Done = true
 is_answer_to (Cancel q) what.Done = true
+is_answer_to (Start q) what.Done = true
+is_answer_to (Reopen p cap) what.Done = true
 is_answer_to step answer = false
 
 -- how a call that waits ends

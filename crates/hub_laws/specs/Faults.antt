@@ -1,7 +1,7 @@
 -- The faults that answer an entry: of one that is not admitted, and of one that is.
 use Rattle.std.specs.Prelude.{Bool, true, false}
 use Rattle.hub_base.specs.Entry.{Step}
-use Rattle.hub_base.specs.declared.entry.Step.TheVariants.{Make, Call, Close, Cancel}
+use Rattle.hub_base.specs.declared.entry.Step.TheVariants.{Make, Call, Close, Cancel, Start, Reopen}
 use Rattle.hub_base.specs.declared.fault.Fault.{Fault}
 use Rattle.hub_base.specs.declared.fault.Fault.TheVariants as fault
 
@@ -27,4 +27,9 @@ is_fault_of (Close p) fault.NoPort = true
 is_fault_of (Close p) fault.NilClose = true
 is_fault_of (Close p) fault.AlreadyClosed = true
 is_fault_of (Cancel q) fault.NotParked = true
+is_fault_of (Start q) fault.NotGone = true
+is_fault_of (Reopen p cap) fault.NoPort = true
+is_fault_of (Reopen p cap) fault.BadCap = true
+is_fault_of (Reopen p cap) fault.NilClose = true
+is_fault_of (Reopen p cap) fault.InUse = true
 is_fault_of step f = false

@@ -11,14 +11,14 @@ use Rattle.hub_base.specs.Runs.{state, moves, events, kept}
 use Rattle.hub_base.specs.Values.{turns_after}
 use Rattle.hub_base.specs.Text.{steps_of}
 use Rattle.hub_base.specs.Value.{value_of}
-use Rattle.hub_base.specs.Notation.{procs, port, s, r, make, send, recv, close, exit, select, case, told, got}
+use Rattle.hub_base.specs.Notation.{procs, procs_three, port, s, r, make, send, recv, close, exit, start, reopen, select, case, told, got}
 use Rattle.hub_laws.specs.Sound.{some_call}
 use Rattle.hub_laws.specs.Once.{endings, endings_until, ends_call, is_refusal}
-use Rattle.hub_laws.specs.AfterClose.{told_later, sent_at, heard, answers_done}
+use Rattle.hub_laws.specs.AfterClose.{told_later, sent_at, heard, answers_done, opens_again}
 use Rattle.hub_laws.specs.Answers.{is_answer_to}
 use Rattle.hub_laws.specs.Replies.{own, reply}
 use Rattle.hub_laws.specs.Journals.{IsLegal}
-use Rattle.hub_laws.specs.Limits.{exits_of}
+use Rattle.hub_laws.specs.Limits.{exits_of, starts_of, all_starts}
 use Rattle.hub_laws.specs.OnePort.{touched, changed, number_of}
 use Rattle.hub_laws.specs.Received.{got_at, received_on}
 
@@ -55,6 +55,19 @@ sent_row = refl
 
 pub done_row : answers_done (moves (state (procs 2) (make 0 2 ∷ [])) (close 0 1)).events ≡ true
 done_row = refl
+
+-- a port that is opened again takes values again; a reopen that is told a fault does not count
+abbrev drained : List Entry
+drained = make 0 1 ∷ close 0 1 ∷ []
+
+pub again_row : opens_again (port 1) (turns_after (state (procs_three 1) drained) (send 0 1 3 ∷ reopen 0 1 1 ∷ [])) ≡ true
+again_row = refl
+
+pub not_again_row : opens_again (port 1) (turns_after (state (procs_three 1) drained) (reopen 0 1 2000 ∷ reopen 0 2 1 ∷ [])) ≡ false
+not_again_row = refl
+
+pub sent_again_row : told_later (sent_at (port 1)) (procs_three 1) drained (reopen 0 1 1 ∷ send 0 1 9 ∷ []) ≡ s 1 9 ∷ []
+sent_again_row = refl
 
 -- ---- at most one event
 
@@ -132,6 +145,12 @@ refused_row = refl
 pub number_row : number_of (touched (procs 1) (exit 0 ∷ []) (make 0 1)) ≡ 0
 number_row = refl
 
+pub opened_row : touched (procs_three 1) (make 0 1 ∷ close 0 1 ∷ []) (reopen 0 1 4) ≡ Some (port 1)
+opened_row = refl
+
+pub started_row : touched (procs_three 2) (exit 1 ∷ []) (start 0 1) ≡ None
+started_row = refl
+
 -- and changed
 pub writes_row : changed (procs 1) (make 0 1 ∷ []) (send 0 1 5) ≡ Some (port 1)
 writes_row = refl
@@ -189,6 +208,19 @@ length_row = refl
 
 pub exits_row : exits_of 0 (kept (procs 2) (exit 0 ∷ exit 0 ∷ exit 1 ∷ [])) ≡ exit 0 ∷ []
 exits_row = refl
+
+-- each start of a process lets it exit once more; one that is told a fault counts too
+abbrev comes_back : List Entry
+comes_back = exit 1 ∷ start 0 1 ∷ exit 1 ∷ start 0 1 ∷ start 0 1 ∷ []
+
+pub exits_again_row : exits_of 1 (kept (procs_three 2) comes_back) ≡ exit 1 ∷ exit 1 ∷ []
+exits_again_row = refl
+
+pub starts_row : length (starts_of 1 (kept (procs_three 2) comes_back)) ≡ 3
+starts_row = refl
+
+pub no_start_row : all_starts (kept (procs 2) (exit 1 ∷ make 0 1 ∷ [])) ≡ []
+no_start_row = refl
 
 abbrev two_sent : List Entry
 two_sent = make 0 2 ∷ send 0 1 7 ∷ send 0 1 8 ∷ recv 1 1 ∷ exit 1 ∷ []

@@ -1,12 +1,12 @@
 -- One step writes the channel of at most one port, which its answer names: the port of the case
--- that fired, the port that was made, or the port that was closed. A call that waits or takes its
--- default, an exit, a cancel and a fault write none, and what follows an answer (calls that end) no other. Nor
+-- that fired, the port that was made, or the port that was closed or opened again. A call that waits or takes its
+-- default, an exit, a cancel, a start and a fault write none, and what follows an answer (calls that end) no other. Nor
 -- does a case write any that found its port closed: a send there, or a receive from it when drained.
 use Rattle.std.specs.Prelude.{◌≡◌, ◌≤◌, ◌<◌, ◌==◌, ◌++◌, ℕ, Bool, true, false, List, [], ◌∷◌, length, Option, Some, None, slice_get, if◌then◌else◌}
 use Rattle.std.specs.Option.{option_map, option_map_or}
 use Rattle.hub_base.specs.declared.value.Port.{Port}
 use Rattle.hub_base.specs.Entry.{Entry, Step}
-use Rattle.hub_base.specs.declared.entry.Step.TheVariants.{Make, Call, Close}
+use Rattle.hub_base.specs.declared.entry.Step.TheVariants.{Make, Call, Close, Reopen}
 use Rattle.hub_base.specs.declared.head.Head.{Head}
 use Rattle.hub_base.specs.declared.event.Outcome.TheVariants.{Drained, Closed}
 use Rattle.hub_base.specs.declared.event.What.{What}
@@ -21,12 +21,23 @@ abbrev pub port_touched_by : Step → What → Option Port
 port_touched_by (Make cap) (what.Made p) = Some p
 port_touched_by (Call cases default word) (what.Fired i o) = option_map port_of (slice_get cases.items i)
 port_touched_by (Close p) what.Done = Some p
+port_touched_by (Reopen p cap) what.Done = Some p
 port_touched_by step answer = None
 
 -- the first of these events is the answer
 abbrev pub port_touched : Step → List Event → Option Port
 port_touched step [] = None
 port_touched step (answer ∷ ended) = port_touched_by step answer.what
+
+-- the port that a step opens again, from the step and its answer alone
+abbrev pub opened_by : Step → What → Option Port
+opened_by (Reopen p cap) what.Done = Some p
+opened_by step answer = None
+
+-- the same by the events of a step, of which the first is the answer
+abbrev pub opened : Step → List Event → Option Port
+opened step [] = None
+opened step (answer ∷ ended) = opened_by step answer.what
 
 -- the case that fired found its port closed
 abbrev pub found_closed : What → Bool

@@ -23,8 +23,8 @@ pub fn journals_begin(head: Head, before: &[Entry], later: &[Entry])
     ensures { Begins head before.now later.now }
 {}
 
-/// A journal holds at most one exit of each process, so at most as many entries more than steps as
-/// there are processes.
+/// A journal holds at most one exit of each process, and one more for each start of it: so at most as many entries
+/// more than steps as there are processes and starts. In the first two editions there are no starts.
 pub fn journals_are_short(head: Head, entries: &[Entry])
     ensures { LimitsLaw head entries.now }
 {}

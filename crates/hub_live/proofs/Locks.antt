@@ -16,7 +16,8 @@ use Rattle.hub_core.specs.HubView.{places_after}
 use Rattle.hub_laws.proofs.Journals.{begins-law}
 use Rattle.hub_live.specs.Locked.{answer_for, IsLawful, last_told}
 use Rattle.hub_live.specs.Calls.{Answers, AnswersNoCall}
-use Rattle.hub_live.specs.Prelude.{Entry, Event, Pid, is_waiting, Step, Make, Call, Close, Exit, Cancel, IsLegal, reply, last_from, is_parked, HubView, Steps}
+use Rattle.hub_live.specs.Prelude.{Entry, Event, Pid, is_waiting, Step, Make, Call, Close, Exit, Cancel, Start, Reopen, IsLegal, reply, last_from}
+use Rattle.hub_live.specs.Prelude.{is_parked, HubView, Steps}
 use Rattle.hub_live.specs.Prelude.{state_of, LockedView, IsReplyTo, Serves}
 
 -- ---- places
@@ -160,6 +161,8 @@ answers_no_call pid (Call cases default word) x h = tt
 answers_no_call pid (Close p) x h = h
 answers_no_call pid Exit x h = h
 answers_no_call pid (Cancel q) x h = h
+answers_no_call pid (Start q) x h = h
+answers_no_call pid (Reopen p cap) x h = h
 
 -- only a call waits
 pub parked_call : (pid : Pid) (step : Step) (x y : Event) → is_answer_to step x.what ≡ true → is_parked x.what ≡ true → AnswersNoCall pid step y
@@ -171,3 +174,5 @@ parked_call pid step x y fits parked = by step (subst (λ (w : What). is_answer_
     by (Close p) is = absurd (let g : ⊥ = cc in g)
     by Exit is = absurd (let g : ⊥ = cc in g)
     by (Cancel q) is = absurd (let g : ⊥ = cc in g)
+    by (Start q) is = absurd (let g : ⊥ = cc in g)
+    by (Reopen p cap) is = absurd (let g : ⊥ = cc in g)

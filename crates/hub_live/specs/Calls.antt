@@ -1,6 +1,5 @@
 -- What a call promises of what its seat has then seen.
 use Rattle.std.specs.Prelude.{◌≡◌, ◌<◌, ◌≤◌, ◌++◌, ◌∷◌, ◌+◌, [], ℕ, true, false, List, None, Some, Result, IfOk, IfErr, OnOk, OnErr, All}
-use Rattle.std.specs.List.{list_any}
 use mathlib.Core.List.{IsPrefix}
 use Rattle.hub_base.specs.declared.value.Pid.{Pid}
 use Rattle.hub_base.specs.Entry.{Entry, Step}
@@ -12,7 +11,7 @@ use Rattle.hub_base.specs.declared.fault.Fault.TheVariants as fault
 use Rattle.hub_base.specs.Head.{AreOf}
 use Rattle.hub_base.specs.Journal.{JournalView}
 use Rattle.hub_base.specs.Reading.{is_exit}
-use Rattle.hub_base.specs.Steps.{is_waiting, refusal, tells}
+use Rattle.hub_base.specs.Steps.{has_gone, is_waiting, refusal, tells}
 use Rattle.hub_base.specs.Runs.{state}
 use Rattle.hub_base.specs.Text.{steps_of}
 use Rattle.hub_laws.specs.Answers.{is_answer_to}
@@ -39,7 +38,7 @@ LeavesRoom t e seen = is_exit e.step ≡ false → steps_of seen < t.limit
 abbrev pub Shows : Terms → Entry → List Entry → Fault → Type 0
 Shows t e seen fault.JournalFull = (is_exit e.step ≡ false) × (steps_of seen ≡ t.limit)
 Shows t e seen fault.Gone =
-    LeavesRoom t e seen × (list_any (λ x. is_exit x.step) (own e.pid.0 seen) ≡ true)
+    LeavesRoom t e seen × (has_gone (state t.head seen) e.pid.0 ≡ true)
 Shows t e seen fault.NoMemory =
     (is_exit e.step ≡ false) × (steps_of seen < t.limit)
     × (refusal (state t.head seen) e.pid ≡ None)

@@ -16,8 +16,8 @@ pub use Rattle.hub_base.specs.Reading.{is_exit}
 pub use Rattle.hub_base.specs.Text.{steps_of}
 pub use Rattle.hub_base.specs.declared.head.Head.{Head}
 pub use Rattle.hub_base.specs.Entry.{Entry, Step}
-pub use Rattle.hub_base.specs.declared.entry.Step.TheVariants.{Call, Close, Exit, Make, Cancel}
-pub use Rattle.hub_base.specs.Head.{is_of, has_case, has_value, AreOf}
+pub use Rattle.hub_base.specs.declared.entry.Step.TheVariants.{Call, Close, Exit, Make, Cancel, Start, Reopen}
+pub use Rattle.hub_base.specs.Head.{is_of, has_cancel, has_lives, has_case, has_value, AreOf}
 pub use Rattle.hub_base.specs.declared.head.Edition.TheVariants.{Two}
 pub use Rattle.hub_base.specs.Journal.{JournalView}
 pub use Rattle.hub_base.specs.declared.case.Case.TheVariants.{Send, Recv}

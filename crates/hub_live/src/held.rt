@@ -3,7 +3,7 @@
 
 ghost use Rattle.std.specs.Prelude.{◌≡◌, ◌<◌, ◌∷◌, ◌⊎◌, [], true, false, IfOk, IfErr, All};
 ghost use Rattle.hub_base.specs.declared.event.What.TheVariants as what;
-ghost use Rattle.hub_live.specs.Prelude.{Send, Recv, Make, Call, Close, Exit, Cancel, Two, is_of, has_value, call, counts_at, IsIdle, state_seen, Later};
+ghost use Rattle.hub_live.specs.Prelude.{Send, Recv, Make, Call, Close, Exit, Cancel, Start, Reopen, has_cancel, has_lives, is_of, has_value, call, counts_at, IsIdle, state_seen, Later};
 ghost use Rattle.hub_live.specs.Prelude.{Made, Refused, Answers, AskedNothing, StandsIn, Told, EndsIn};
 
 use crate::answer::Answer;
@@ -167,16 +167,46 @@ impl<K: HubName> Held<K> {
         hub.exit(rt, &mut self.seat)
     }
 
-    /// Cancels the open call of another process. Answers and refusals: `LiveHub::cancel`. Only hubs of the second
-    /// edition have it.
+    /// Cancels the open call of another process. Answers and refusals: `LiveHub::cancel`. Hubs of the first edition
+    /// do not have it.
     pub fn cancel<R: Wait>(&mut self, rt: &R, hub: &LiveHub<K>, pid: Pid) -> Answer
-        requires { K.name.terms.head.edition ≡ Two }
+        requires { has_cancel K.name.terms.head.edition ≡ true }
         ensures later { Later self.old self.new }
         ensures ok { IfOk result (λ x. Made self.old self.new (Cancel pid) x) }
         ensures answer { IfOk result (λ x. Answers self.old.pid (Cancel pid) x) }
         ensures err { IfErr result (λ f. Refused self.old self.new (Cancel pid) f) }
     {
         hub.cancel(rt, &mut self.seat, pid)
+    }
+
+    /// Starts another process again, which has exited. Answers and refusals: `LiveHub::start`. Only hubs of the third
+    /// edition have it.
+    pub fn start<R: Wait>(&mut self, rt: &R, hub: &LiveHub<K>, pid: Pid) -> Answer
+        requires { has_lives K.name.terms.head.edition ≡ true }
+        ensures later { Later self.old self.new }
+        ensures ok { IfOk result (λ x. Made self.old self.new (Start pid) x) }
+        ensures answer { IfOk result (λ x. Answers self.old.pid (Start pid) x) }
+        ensures err { IfErr result (λ f. Refused self.old self.new (Start pid) f) }
+    {
+        hub.start(rt, &mut self.seat, pid)
+    }
+
+    /// Opens a port again, which is closed and drained, by its end that sends. Answers and refusals: `LiveHub::reopen`.
+    /// Only hubs of the third edition have it.
+    pub fn reopen<R: Wait>(
+        &mut self,
+        rt: &R,
+        hub: &LiveHub<K>,
+        sender: &SendPort,
+        cap: u32,
+    ) -> Answer
+        requires { has_lives K.name.terms.head.edition ≡ true }
+        ensures later { Later self.old self.new }
+        ensures ok { IfOk result (λ x. Made self.old self.new (Reopen sender.now cap) x) }
+        ensures answer { IfOk result (λ x. Answers self.old.pid (Reopen sender.now cap) x) }
+        ensures err { IfErr result (λ f. Refused self.old self.new (Reopen sender.now cap) f) }
+    {
+        hub.reopen(rt, &mut self.seat, sender, cap)
     }
 
     /// The counts of a port in the journal that the seat has then seen.

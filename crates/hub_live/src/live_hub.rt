@@ -3,7 +3,7 @@
 ghost use Rattle.std.specs.Sync.Mutex.{mutex_guard_value};
 ghost use Rattle.std.specs.Prelude.{◌≡◌, ◌∷◌, ◌⊎◌, [], true, false, IfOk, IfErr, All, vec_len};
 ghost use Rattle.hub_base.specs.declared.event.What.TheVariants as what;
-ghost use Rattle.hub_live.specs.Prelude.{Send, Recv, Make, Call, Close, Exit, Cancel, Two, is_of, has_case, has_value, call, is_parked, counts_at, state_seen, Later};
+ghost use Rattle.hub_live.specs.Prelude.{Send, Recv, Make, Call, Close, Exit, Cancel, Start, Reopen, has_cancel, has_lives, is_of, has_case, has_value, call, is_parked, counts_at, state_seen, Later};
 ghost use Rattle.hub_live.specs.Prelude.{Made, Refused, Answers, AnswersNoCall, AskedNothing, Tells, Told, EndsIn, HasEnded, IsHistory, entry_of};
 
 use crate::answers::Pids;
@@ -341,10 +341,10 @@ impl<K: HubName> LiveHub<K> {
         self.step(rt, &entry_of(seat, Step::Close(sender.port())), seat)
     }
 
-    /// Ends the process. Answered `Done`; its later steps are refused by `Gone`. It takes the lock and
-    /// no memory, and waits for no other step. A process that makes no exit, and has no open call, counts as
-    /// one that can act: while there is one, no call that waits ends by `Stalled`. A seat that is dropped is
-    /// no exit.
+    /// Ends the process. Answered `Done`; its later steps are refused by `Gone`, until it is started again. It
+    /// takes the lock and no memory, and waits for no other step. A process that makes no exit, and has no open
+    /// call, counts as one that can act: while there is one, no call that waits ends by `Stalled`. A seat that
+    /// is dropped is no exit.
     ///
     /// Refused by `Gone` alone, where the process has exited before.
     pub fn exit<R: Wait>(&self, rt: &R, seat: &mut Seat) -> Result<Event, Fault>
@@ -360,18 +360,58 @@ impl<K: HubName> LiveHub<K> {
     /// Cancels the open call of another process: it ends with `Cancelled`, no value moves, and no port
     /// changes. Answered `Done`, or the fault `NotParked` where that process has no open call: it is none of
     /// the hub's, has exited, is at work, or is the seat's own. It takes the lock, and waits for no other
-    /// step. Only hubs of the second edition have it.
+    /// step. Hubs of the first edition do not have it.
     ///
     /// Refused as a call is.
     pub fn cancel<R: Wait>(&self, rt: &R, seat: &mut Seat, pid: Pid) -> Result<Event, Fault>
         requires hub { seat.old.hub ≡ K.name }
-        requires edition { K.name.terms.head.edition ≡ Two }
+        requires edition { has_cancel K.name.terms.head.edition ≡ true }
         ensures later { Later seat.old seat.new }
         ensures ok { IfOk result (λ x. Made seat.old seat.new (Cancel pid) x) }
         ensures answer { IfOk result (λ x. Answers seat.old.pid (Cancel pid) x) }
         ensures err { IfErr result (λ f. Refused seat.old seat.new (Cancel pid) f) }
     {
         self.step(rt, &entry_of(seat, Step::Cancel(pid)), seat)
+    }
+
+    /// Starts another process again, which has exited: its seat then makes steps as before its exit. Answered
+    /// `Done`, or the fault `NotGone` where that process has not exited or is none of the hub's. It takes the
+    /// lock, and waits for no other step. Only hubs of the third edition have it.
+    ///
+    /// Refused as a call is.
+    pub fn start<R: Wait>(&self, rt: &R, seat: &mut Seat, pid: Pid) -> Result<Event, Fault>
+        requires hub { seat.old.hub ≡ K.name }
+        requires edition { has_lives K.name.terms.head.edition ≡ true }
+        ensures later { Later seat.old seat.new }
+        ensures ok { IfOk result (λ x. Made seat.old seat.new (Start pid) x) }
+        ensures answer { IfOk result (λ x. Answers seat.old.pid (Start pid) x) }
+        ensures err { IfErr result (λ f. Refused seat.old seat.new (Start pid) f) }
+    {
+        self.step(rt, &entry_of(seat, Step::Start(pid)), seat)
+    }
+
+    /// Opens a port again, which is closed and drained, with this capacity, by its end that sends. Answered
+    /// `Done`, or the fault `NoPort` for a port that was not made, `BadCap`, `NilClose` for port 0, or `InUse`
+    /// where the port is open or holds a value. It takes the lock, and waits for no other step. Only hubs of the
+    /// third edition have it.
+    ///
+    /// Refused as a make is.
+    pub fn reopen<R: Wait>(
+        &self,
+        rt: &R,
+        seat: &mut Seat,
+        sender: &SendPort,
+        cap: u32,
+    ) -> Result<Event, Fault>
+        requires hub { seat.old.hub ≡ K.name }
+        requires edition { has_lives K.name.terms.head.edition ≡ true }
+        ensures later { Later seat.old seat.new }
+        ensures ok { IfOk result (λ x. Made seat.old seat.new (Reopen sender.now cap) x) }
+        ensures answer { IfOk result (λ x. Answers seat.old.pid (Reopen sender.now cap) x) }
+        ensures err { IfErr result (λ f. Refused seat.old seat.new (Reopen sender.now cap) f) }
+    {
+        let port = sender.port();
+        self.step(rt, &entry_of(seat, Step::Reopen { port, cap }), seat)
     }
 
     /// The counts of a port in the journal that the seat has then seen: by at most one load, with no

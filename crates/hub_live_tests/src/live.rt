@@ -33,6 +33,10 @@ pub(crate) enum Ask {
     Close,
     /// The end of the open call of process 1.
     Cancel,
+    /// That process 1, which has exited, makes steps again.
+    Start,
+    /// That the port is open again, with this capacity.
+    Reopen(u32),
     /// Its exit.
     Exit,
 }
@@ -101,6 +105,8 @@ fn entry_of(pid: u8, asked: Ask) -> Entry {
         Ask::RecvNil => call(Case::Recv(Port(0))),
         Ask::Close => Step::Close(Port(1)),
         Ask::Cancel => Step::Cancel(Pid(1)),
+        Ask::Start => Step::Start(Pid(1)),
+        Ask::Reopen(cap) => Step::Reopen { port: Port(1), cap },
         Ask::Exit => Step::Exit,
     };
     Entry {

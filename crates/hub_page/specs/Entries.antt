@@ -3,7 +3,7 @@ use Rattle.std.specs.Prelude.{ℕ, zero, Bool, true, false, List, [], ◌∷◌,
 use Rattle.std.specs.List.{flat_map}
 use Rattle.hub_base.specs.declared.case.Case.{Case}
 use Rattle.hub_base.specs.Entry.{Entry, Step}
-use Rattle.hub_base.specs.declared.entry.Step.TheVariants.{Make, Call, Close, Exit, Cancel}
+use Rattle.hub_base.specs.declared.entry.Step.TheVariants.{Make, Call, Close, Exit, Cancel, Start, Reopen}
 use Rattle.hub_base.specs.Lines.{case_field}
 
 abbrev pub default_mark : Bool → List ℕ
@@ -25,6 +25,8 @@ step_words (Call cases default word) = call_words cases.items default word
 step_words (Close p) = codes "c" ++ decimal p.0
 step_words Exit = codes "e"
 step_words (Cancel q) = codes "x" ++ decimal q.0
+step_words (Start q) = codes "g" ++ decimal q.0
+step_words (Reopen p cap) = codes "o" ++ decimal p.0 ++ codes ":" ++ decimal cap
 
 abbrev pub entry_words : Entry → List ℕ
 entry_words e = decimal e.pid.0 ++ step_words e.step

@@ -4,7 +4,7 @@ use Rattle.std.specs.List.{list_any}
 use Rattle.std.specs.Option.{option_map_or}
 use Rattle.hub_base.specs.declared.value.Pid.{Pid}
 use Rattle.hub_base.specs.Entry.{Entry, Step}
-use Rattle.hub_base.specs.declared.entry.Step.TheVariants.{Make, Call, Close, Exit, Cancel}
+use Rattle.hub_base.specs.declared.entry.Step.TheVariants.{Make, Call, Close, Exit, Cancel, Start, Reopen}
 use Rattle.hub_base.specs.declared.event.What.{What}
 use Rattle.hub_base.specs.declared.event.What.TheVariants.{Fired}
 use Rattle.hub_story.specs.declared.told.Told.{Told}
@@ -16,13 +16,15 @@ use Rattle.hub_story.specs.Windows.{has, touches}
 use Rattle.hub_story_text.specs.Partners.{partner_of}
 use Rattle.hub_page.specs.Lanes.{lane_of, waiting_call}
 
--- it asks for what lasts: a port, or that its process exits
+-- it asks for what lasts: a port, or its second life; that its process exits, or that another starts again
 abbrev pub is_lasting : Step → Bool
 is_lasting (Make cap) = true
 is_lasting Exit = true
 is_lasting (Call cases default word) = false
 is_lasting (Close p) = false
 is_lasting (Cancel q) = false
+is_lasting (Start q) = true
+is_lasting (Reopen p cap) = true
 
 abbrev pub has_some : Window → Option ℕ → Bool
 has_some w o = option_map_or (has w) o false

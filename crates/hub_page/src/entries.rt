@@ -1,12 +1,12 @@
 //! What an entry asks, in few letters.
 
-ghost use Rattle.std.specs.Prelude.{◌≡◌, ◌++◌, OnOk};
+ghost use Rattle.std.specs.Prelude.{◌≡◌, ◌++◌, OnOk, codes, decimal};
 ghost use Rattle.std.specs.List.{flat_map};
 ghost use Rattle.hub_base.specs.Lines.{case_field};
 ghost use Rattle.hub_page.specs.Entries.{call_words, default_mark, entry_words, select_words, step_words};
 
 use crate::number::put_number;
-use hub_base::{Case, EntryRef, NoMemory, Step, StepRef};
+use hub_base::{Case, EntryRef, NoMemory, Port, Step, StepRef};
 use hub_text::write_value;
 
 /// Appends a case as a journal spells it.
@@ -62,6 +62,14 @@ fn put_call(out: &mut Vec<u8>, cases: &[Case], default: bool, word: u64) -> Resu
     put_case(out, &cases[0])
 }
 
+/// Appends a reopen.
+fn put_reopen(out: &mut Vec<u8>, port: Port, cap: u32) -> Result<(), NoMemory>
+    ensures { OnOk result (out.new.items ≡ out.old.items ++ (codes "o" ++ decimal port.0 ++ codes ":" ++ decimal cap)) }
+{
+    put_number(out, b"o", port.0.into())?;
+    Ok(put_number(out, b":", cap.into())?)
+}
+
 /// Appends a step.
 fn put_step(out: &mut Vec<u8>, step: &StepRef<'_>) -> Result<(), NoMemory>
     ensures { OnOk result (out.new.items ≡ out.old.items ++ step_words step.now) }
@@ -76,6 +84,8 @@ fn put_step(out: &mut Vec<u8>, step: &StepRef<'_>) -> Result<(), NoMemory>
         Step::Close(port) => Ok(put_number(out, b"c", port.0.into())?),
         Step::Exit => Ok(out.extend_from_slice(b"e")?),
         Step::Cancel(pid) => Ok(put_number(out, b"x", pid.0.into())?),
+        Step::Start(pid) => Ok(put_number(out, b"g", pid.0.into())?),
+        Step::Reopen { port, cap } => put_reopen(out, *port, *cap),
     }
 }
 

@@ -11,11 +11,14 @@ use crate::lanes::lane_of;
 use hub_base::{EntryRef, Pid, Step, StepRef, What};
 use hub_story::{Told, Window};
 
-/// Whether a step asks for what lasts: a port, or that its process exits.
+/// Whether a step asks for what lasts: a port, or its second life; that its process exits, or that another starts again.
 fn is_lasting(step: &StepRef<'_>) -> bool
     ensures { result ≡ is_lasting step.now }
 {
-    matches!(step, Step::Make(_) | Step::Exit)
+    matches!(
+        step,
+        Step::Make(_) | Step::Exit | Step::Start(_) | Step::Reopen { .. }
+    )
 }
 
 /// Whether the window has this step, if there is one.

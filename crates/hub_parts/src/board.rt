@@ -6,11 +6,11 @@
 //! places for each process, and no process has more than one open call, of at most `CASE_PLACES` cases: so the
 //! live entries leave room for one call more.
 
-ghost use Rattle.std.specs.Prelude.{◌≡◌, ◌≤◌, ◌<◌, ◌+◌, ◌*◌, [], length, IfOk, IfSome, OnErr, IsTrue, ◌↔◌, ◌==◌, true, false, slice_get, is_some};
+ghost use Rattle.std.specs.Prelude.{◌≡◌, ◌≤◌, ◌<◌, ◌+◌, ◌*◌, [], length, IfOk, IfSome, OnErr, OnOk, IsTrue, ◌↔◌, ◌==◌, true, false, slice_get, is_some};
 ghost use Rattle.std.specs.Option.{option_map};
 ghost use Rattle.std.specs.List.{list_any};
 ghost use Rattle.hub_base.specs.Ready.{first_with, is_on};
-ghost use Rattle.hub_parts.specs.Lists.{open_calls, parked, with_new, IsMade, port_at, with_port, pushed, popped, closed_now, passes, ending_of, after_taking, after_stop, ended_by, opened, shown_call};
+ghost use Rattle.hub_parts.specs.Lists.{open_calls, parked, with_new, new_port, IsMade, port_at, with_port, pushed, popped, closed_now, passes, ending_of, after_taking, after_stop, ended_by, opened, shown_call};
 ghost use Rattle.hub_parts.specs.Keeps.{AllMade};
 ghost use Rattle.hub_parts.specs.Shapes.{HaveOneShape, IsShapeOf, caps_of};
 ghost use Rattle.hub_parts.specs.declared.wait_queue.TheConstants.{PLACES};
@@ -243,6 +243,19 @@ impl Board {
     {
         let channel = &mut self.ports[port.0 as usize - 1];
         channel.shut();
+    }
+
+    /// Opens a port again, with this capacity and an empty buffer. The calls that wait there still wait. It takes all
+    /// the memory that the buffer will ever need; after an error the board is as before.
+    pub fn reopen(&mut self, port: Port, cap: u32) -> Result<(), NoMemory>
+        requires { IsMade self.old port }
+        ensures ok { OnOk result (self.new ≡ with_port self.old port (new_port cap)) }
+        ensures err { OnErr result (self.new ≡ self.old) }
+    {
+        let alloc = *self.ports.allocator();
+        let channel = &mut self.ports[port.0 as usize - 1];
+        channel.reopen(alloc, cap)?;
+        Ok(())
     }
 
     /// Ends the oldest open call with a case on this side of the port, at its lowest such case. The call leaves

@@ -11,7 +11,7 @@ use Rattle.hub_base.specs.declared.limits.TheConstants.{GREATEST_CAP, GREATEST_P
 use Rattle.hub_base.specs.declared.case.Case.{Case}
 use Rattle.hub_base.specs.declared.case.Case.TheVariants.{Send, Recv}
 use Rattle.hub_base.specs.Entry.{Entry, Step}
-use Rattle.hub_base.specs.declared.entry.Step.TheVariants.{Make, Call, Close, Exit, Cancel}
+use Rattle.hub_base.specs.declared.entry.Step.TheVariants.{Make, Call, Close, Exit, Cancel, Start, Reopen}
 use Rattle.hub_base.specs.declared.head.Edition.{Edition}
 use Rattle.hub_base.specs.Content.{Content, IsContent}
 use Rattle.hub_base.specs.Value.{IsValue, content, field_of, value_field}
@@ -99,6 +99,8 @@ step-plain (Call cases default word) fits = call-plain cases.items default word 
 step-plain (Close p) fits = (refl, (small p.0 GREATEST_PORT fits (omega arith), _))
 step-plain Exit fits = (refl, _)
 step-plain (Cancel q) fits = (refl, (small q.0 GREATEST_PID fits (omega arith), _))
+step-plain (Start q) fits = (refl, (small q.0 GREATEST_PID fits (omega arith), _))
+step-plain (Reopen p cap) fits = (refl, (small p.0 GREATEST_PORT fits.0 (omega arith), (small cap GREATEST_CAP fits.1 (omega arith), _)))
 
 pub plain-line : (edition : Edition) (e : Entry) → Fits edition e → IsPlain (line e)
 plain-line edition e fits =

@@ -182,6 +182,8 @@ label-plain label.Default fits = refl
 label-plain (label.Close p) fits = worded (codes "c") p.0 GREATEST_PORT refl fits (omega arith)
 label-plain label.Exit fits = refl
 label-plain (label.Cancel q) fits = worded (codes "x") q.0 255 refl fits (omega arith)
+label-plain (label.Start q) fits = worded (codes "g") q.0 255 refl fits (omega arith)
+label-plain (label.Reopen p) fits = worded (codes "o") p.0 GREATEST_PORT refl fits (omega arith)
 label-plain (label.Refused f) fits = worded (codes "f") (fault_number f) 255 refl (fault-small f) (omega arith)
 
 content-shown : (c : Content) → IsContent c → IsPlain (codes ":" ++ number_text (number_in c))

@@ -17,7 +17,7 @@ use Rattle.hub_picture.specs.declared.asked.Asked.{Asked}
 use Rattle.hub_picture.specs.declared.frame.Scale.{Scale}
 use Rattle.hub_picture.specs.declared.frame.Scale.TheVariants.{Wide}
 use Rattle.hub_picture.specs.declared.label.Label.{Label}
-use Rattle.hub_picture.specs.declared.label.Label.TheVariants.{Make, Send, Receive, Select, Default, Close, Exit, Cancel, Refused}
+use Rattle.hub_picture.specs.declared.label.Label.TheVariants.{Make, Send, Receive, Select, Default, Close, Exit, Cancel, Start, Reopen, Refused}
 
 -- what it was told at last; `Parked` while it waits
 abbrev pub last_told : Option Told → What
@@ -53,6 +53,8 @@ step_label (step.Call cases default word) w = call_label cases.items w
 step_label (step.Close p) w = Close p
 step_label step.Exit w = Exit
 step_label (step.Cancel q) w = Cancel q
+step_label (step.Start q) w = Start q
+step_label (step.Reopen p cap) w = Reopen p
 
 -- a fault has its number
 abbrev pub answered_label : Step → What → Label
@@ -72,6 +74,8 @@ label_text Default = codes "def"
 label_text (Close p) = codes "c" ++ decimal p.0
 label_text Exit = codes "exit"
 label_text (Cancel q) = codes "x" ++ decimal q.0
+label_text (Start q) = codes "g" ++ decimal q.0
+label_text (Reopen p) = codes "o" ++ decimal p.0
 label_text (Refused f) = codes "f" ++ decimal (fault_number f)
 
 -- eight colours, each with a mark of its own, and again
@@ -87,6 +91,8 @@ class_text Default = codes "plain"
 class_text (Close p) = codes "port h" ++ decimal (hue_of p)
 class_text Exit = codes "plain"
 class_text (Cancel q) = codes "plain"
+class_text (Start q) = codes "plain"
+class_text (Reopen p) = codes "port h" ++ decimal (hue_of p)
 class_text (Refused f) = codes "refused"
 
 -- ---- which value is shown: the one that the case sent, or got

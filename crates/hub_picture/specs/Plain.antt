@@ -14,7 +14,7 @@ use Rattle.hub_picture.specs.declared.strips.Strip.{Strip}
 use Rattle.hub_picture.specs.declared.waiters.Waiter.{Waiter}
 use Rattle.hub_picture.specs.declared.svg.legend.Mark.{Mark}
 use Rattle.hub_picture.specs.declared.label.Label.{Label}
-use Rattle.hub_picture.specs.declared.label.Label.TheVariants.{Make, Send, Receive, Select, Default, Close, Exit, Cancel, Refused}
+use Rattle.hub_picture.specs.declared.label.Label.TheVariants.{Make, Send, Receive, Select, Default, Close, Exit, Cancel, Start, Reopen, Refused}
 use Rattle.hub_picture.specs.Labels.{label_text, value_text}
 use Rattle.hub_picture.specs.Svg.Arrows.{arrow_title}
 use Rattle.hub_picture.specs.Svg.Entries.{asked_title}
@@ -68,6 +68,8 @@ LabelFits Default = 0 ≤ 0
 LabelFits (Close p) = p.0 ≤ GREATEST_PORT
 LabelFits Exit = 0 ≤ 0
 LabelFits (Cancel q) = q.0 ≤ GREATEST_PID
+LabelFits (Start q) = q.0 ≤ GREATEST_PID
+LabelFits (Reopen p) = p.0 ≤ GREATEST_PORT
 LabelFits (Refused f) = 0 ≤ 0
 
 -- what is told of a box and of a bar, of an arrow, of a stall, of a strip and of a level, of a waiter, what stands in a box

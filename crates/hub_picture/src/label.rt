@@ -28,6 +28,10 @@ pub(crate) enum Label {
     Exit,
     /// It cancels the call of this process.
     Cancel(Pid),
+    /// It starts this process again.
+    Start(Pid),
+    /// It opens this port again.
+    Reopen(Port),
     /// It was answered by this fault.
     Refused(Fault),
 }
@@ -94,6 +98,8 @@ fn step_label(step: &Step, what: What) -> Label
         Step::Close(port) => Label::Close(*port),
         Step::Exit => Label::Exit,
         Step::Cancel(pid) => Label::Cancel(*pid),
+        Step::Start(pid) => Label::Start(*pid),
+        Step::Reopen { port, .. } => Label::Reopen(*port),
     }
 }
 

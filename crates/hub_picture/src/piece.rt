@@ -72,11 +72,11 @@ fn put_numbered(out: &mut Vec<u8>, word: &[u8], number: u64) -> Result<(), Alloc
     put_word(out, word, Some(number))
 }
 
-/// Appends the line of an entry. The second edition has every entry.
+/// Appends the line of an entry. The third edition has every entry.
 fn put_entry(out: &mut Vec<u8>, entry: &Entry) -> Result<(), AllocError>
     ensures { Appends out.old out.new (line entry.now) result }
 {
-    match write_entry(out, Edition::Two, &entry.by_slice()) {
+    match write_entry(out, Edition::Three, &entry.by_slice()) {
         Ok(()) => Ok(()),
         Err(NoMemory) => Err(AllocError),
     }
@@ -159,7 +159,9 @@ fn put_class(out: &mut Vec<u8>, label: Label) -> Result<(), AllocError>
     match label {
         Label::Send(port) => put_hue(out, b"send h", port),
         Label::Receive(port) => put_hue(out, b"receive h", port),
-        Label::Make(port) | Label::Close(port) => put_hue(out, b"port h", port),
+        Label::Make(port) | Label::Close(port) | Label::Reopen(port) => {
+            put_hue(out, b"port h", port)
+        }
         Label::Refused(_fault) => put(out, b"refused"),
         _ => put(out, b"plain"),
     }
@@ -178,6 +180,8 @@ fn put_label(out: &mut Vec<u8>, label: Label) -> Result<(), AllocError>
         Label::Close(port) => put_numbered(out, b"c", port.0.into()),
         Label::Exit => put(out, b"exit"),
         Label::Cancel(pid) => put_numbered(out, b"x", pid.0.into()),
+        Label::Start(pid) => put_numbered(out, b"g", pid.0.into()),
+        Label::Reopen(port) => put_numbered(out, b"o", port.0.into()),
         Label::Refused(fault) => put_numbered(out, b"f", fault.number().into()),
     }
 }

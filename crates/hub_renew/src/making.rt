@@ -29,6 +29,8 @@ pub(crate) fn make_step<K: HubName, R: Wait>(
         Step::Close(port) => seat.close(rt, hub, &Chan::of(port).sender()),
         Step::Exit => seat.exit(rt, hub),
         Step::Cancel(pid) => seat.cancel(rt, hub, pid),
+        Step::Start(pid) => seat.start(rt, hub, pid),
+        Step::Reopen { port, cap } => seat.reopen(rt, hub, &Chan::of(port).sender(), cap),
     }
 }
 

@@ -11,7 +11,7 @@ use Rattle.hub_base.specs.declared.head.Head.{Head}
 use Rattle.hub_base.specs.declared.case.Case.{Case}
 use Rattle.hub_base.specs.declared.case.Case.TheVariants.{Send, Recv}
 use Rattle.hub_base.specs.Entry.{Entry, Step}
-use Rattle.hub_base.specs.declared.entry.Step.TheVariants.{Make, Call, Close, Exit, Cancel}
+use Rattle.hub_base.specs.declared.entry.Step.TheVariants.{Make, Call, Close, Exit, Cancel, Start, Reopen}
 use Rattle.hub_base.specs.declared.event.Event.{Event}
 use Rattle.hub_base.specs.declared.event.Outcome.{Outcome}
 use Rattle.hub_base.specs.declared.event.Outcome.TheVariants.{Sent, Got, Drained, Closed}
@@ -153,6 +153,8 @@ step-long (Call cases default word) = call-long cases.items default word
 step-long (Close p) = omega arith
 step-long Exit = omega arith
 step-long (Cancel q) = omega arith
+step-long (Start q) = omega arith
+step-long (Reopen p cap) = omega arith
 
 -- a line of a journal has two bytes at least
 line_is_long : (e : Entry) → 2 ≤ length (line e)

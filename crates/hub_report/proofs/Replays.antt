@@ -1,6 +1,6 @@
 -- One entry more of a replay.
 use Rattle.std.proofs.Common.{◌≡◌, ◌≤◌, ◌<◌, ◌+◌, ◌-◌, ◌==◌, ℕ, Bool, true, false, cond, zero, suc, List, [], ◌∷◌, ◌++◌, length}
-use Rattle.std.proofs.Common.{filter, replicate, refl, ap, ◌∙◌, sym, Option, Some, None, arith, get_or, take, add-one}
+use Rattle.std.proofs.Common.{◌*◌, filter, replicate, refl, ap, ◌∙◌, sym, Option, Some, None, arith, get_or, take, add-one}
 use Rattle.std.specs.Prelude.{slice_set, slice_index_or}
 use Rattle.std.specs.List.{sum_by, cons_option}
 use Rattle.std.specs.Option.{option_map_or}
@@ -25,7 +25,7 @@ use Rattle.hub_laws.specs.Journals.{IsLegal}
 use Rattle.hub_laws.specs.OnePort.{IsMade, is_port, port_touched}
 use Rattle.hub_laws.specs.Received.{value_got, got_in, got_at, received_from, received_on}
 use Rattle.hub_laws.proofs.Lasting.{ports-law}
-use Rattle.hub_laws.proofs.Limits.{limits-law}
+use Rattle.hub_core.proofs.Hubs.{journal_short}
 use Rattle.hub_laws.proofs.Longer.{events-entry}
 use Rattle.hub_laws.proofs.OnePort.{one_port-law}
 use Rattle.hub_laws.proofs.Received.{received_values-law}
@@ -133,13 +133,11 @@ made_by head es e machine told answers q h =
     record { some = made.some; few = omega (arith, made.few, ports-law head (es ++ e ∷ [])) }
 
 -- ---- bounds
-pub entries_fit : (head : Head) (es : List Entry) → IsLegal head es → head.procs ≤ MOST_PROCS → steps_of es ≤ MOST_STEPS → length es ≤ MOST_STEPS + MOST_PROCS
-entries_fit head es legal procs few =
-    let law = (limits-law head es).length in
-    let short : length es ≤ steps_of es + head.procs = rw legal at law in
-    omega arith
+pub entries_fit : (head : Head) (es : List Entry) → IsLegal head es → head.procs ≤ MOST_PROCS → steps_of es ≤ MOST_STEPS →
+    length es ≤ 2 * MOST_STEPS + MOST_PROCS
+entries_fit head es legal procs few = omega (arith, journal_short head es legal)
 
-pub room-within : (i : ℕ) (r : Replayed) (machine : MachineLists) → Within i r → i ≤ MOST_STEPS + MOST_PROCS → HasRoom (record r { machine = machine })
+pub room-within : (i : ℕ) (r : Replayed) (machine : MachineLists) → Within i r → i ≤ 2 * MOST_STEPS + MOST_PROCS → HasRoom (record r { machine = machine })
 room-within i r machine within few = record {
   sums = λ k. omega (arith, within.sums k);
   stalled = omega (arith, within.stalled);

@@ -28,6 +28,7 @@ use Rattle.hub_runner.specs.CutShort.{steps_asked, ComesTo}
 use Rattle.hub_runner.specs.Running.{AreMakes, SawFull}
 use Rattle.hub_runner.specs.Working.{asked_of, has_exited, Onward, next_of}
 use Rattle.hub_runner.proofs.Askings.{answered, asked-steps}
+use Rattle.hub_runner.proofs.Gone.{gone-exited}
 
 -- ---- exits
 
@@ -184,7 +185,8 @@ own_exit s t reply is =
 pub exit_refused : (s t : SeatView) (f : Fault) → t.pid ≡ s.pid → Shows t.hub.terms (entry_of s step.Exit) t.seen f → has_exited t.pid.0 t.seen ≡ true
 exit_refused s t fault.JournalFull pid shows = let is_step = shows.0 in absurd (let g : ⊥ = cc in g)
 exit_refused s t fault.NoMemory pid shows = let is_step = shows.0 in absurd (let g : ⊥ = cc in g)
-exit_refused s t fault.Gone pid shows = ap (λ (p : Pid). has_exited p.0 t.seen) pid ∙ shows.1
+exit_refused s t fault.Gone pid shows =
+    ap (λ (p : Pid). has_exited p.0 t.seen) pid ∙ gone-exited t.hub.terms.head s.pid.0 t.seen shows.1
 exit_refused s t other pid shows = absurd shows
 
 pub steps_of-append : (xs ys : List Entry) → steps_of (xs ++ ys) ≡ steps_of xs + steps_of ys
@@ -210,5 +212,6 @@ stop_shows sc q script s t next fault.JournalFull st on = inr (
   },
 )
 stop_shows sc q script s t next fault.Gone st on =
-    let none = own_no_exit s (stop_no_exit sc q script s next fault.Gone st) in absurd (let g : ⊥ = cc (st.shows.1, none) in g)
+    let none = own_no_exit s (stop_no_exit sc q script s next fault.Gone st) in
+    let exited = gone-exited s.hub.terms.head s.pid.0 s.seen st.shows.1 in absurd (let g : ⊥ = cc (exited, none) in g)
 stop_shows sc q script s t next other st on = absurd st.shows

@@ -8,13 +8,13 @@ use Rattle.toml.specs.Data.{Data, string, Items, no_items, item}
 use Rattle.hub_base.specs.declared.case.Case.{Case}
 use Rattle.hub_base.specs.declared.case.Case.TheVariants.{Send, Recv}
 use Rattle.hub_base.specs.declared.head.Edition.{Edition}
-use Rattle.hub_base.specs.declared.head.Edition.TheVariants.{One, Two}
+use Rattle.hub_base.specs.declared.head.Edition.TheVariants.{One, Two, Three}
 use Rattle.hub_base.specs.declared.limits.TheConstants.{CASE_PLACES, GREATEST_PORT, GREATEST_VALUE}
 use Rattle.hub_base.specs.declared.read_fault.Kind.{Kind}
 use Rattle.hub_base.specs.declared.read_fault.Kind.TheVariants.{BadNumber}
 use Rattle.hub_base.specs.declared.value.Port.{Port}
 use Rattle.hub_base.specs.declared.value.Value.{Value}
-use Rattle.hub_base.specs.Head.{has_content, has_value, has_case}
+use Rattle.hub_base.specs.Head.{has_bytes, has_content, has_value, has_case}
 use Rattle.hub_base.specs.Lines as lines
 use Rattle.hub_base.specs.Lines.Draft.{Sends, Receives}
 use Rattle.hub_base.specs.Content.{Content, form_of, places_of, said}
@@ -31,14 +31,14 @@ use Rattle.hub_scenario.specs.Steps.{port_in, only_port, right_value, value_in, 
 use Rattle.hub_scenario.specs.Steps.{cases_in, select, step_by, step_of_fields, step_of, has_step}
 
 -- ---- values
--- the second edition has every value
-two_has : (c : Content) → has_content Two c ≡ true
-two_has (Num n) = refl
-two_has (Bytes bs) = refl
+-- an edition that has bytes has every value
+all_has : (ed : Edition) (c : Content) → has_bytes ed ≡ true → has_content ed c ≡ true
+all_has ed (Num n) bytes = refl
+all_has ed (Bytes bs) bytes = bytes
 
-two_reads : (r : Result Value Kind) → IfOk r (λ v. has_value Two v ≡ true)
-two_reads (Ok v) = two_has (content v)
-two_reads (Err k) = tt
+all_reads : (ed : Edition) (r : Result Value Kind) → has_bytes ed ≡ true → IfOk r (λ v. has_value ed v ≡ true)
+all_reads ed (Ok v) bytes = all_has ed (content v) bytes
+all_reads ed (Err k) bytes = tt
 
 -- the first every number
 number-has : (n : ℕ) → has_value One (value_of n) ≡ true
@@ -56,7 +56,8 @@ one_reads (Some n) = number-has n
 value-read : (ed : Edition) (bs : List ℕ) → IfOk (lines.value_read ed bs) (λ v. has_value ed v ≡ true)
 value-read One [] = tt
 value-read One (b ∷ bs) = one_reads (lines.number GREATEST_VALUE (b ∷ bs))
-value-read Two bs = two_reads (lines.value_read Two bs)
+value-read Two bs = all_reads Two (lines.value_read Two bs) refl
+value-read Three bs = all_reads Three (lines.value_read Three bs) refl
 
 right-value : (ed : Edition) (r : Result Value Kind) → IfOk r (λ v. has_value ed v ≡ true) → IfSome (right_value r) (λ v. has_value ed v ≡ true)
 right-value ed (Ok v) h = h

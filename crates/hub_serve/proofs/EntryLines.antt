@@ -5,7 +5,7 @@ use Rattle.std.proofs.Common.{Bool, not, ◌&&◌}
 use Rattle.hub_base.specs.Entry.{Entry}
 use Rattle.hub_base.specs.declared.head.Head.{Head}
 use Rattle.hub_base.specs.declared.head.Edition.{Edition}
-use Rattle.hub_base.specs.declared.head.Edition.TheVariants.{One, Two}
+use Rattle.hub_base.specs.declared.head.Edition.TheVariants.{One, Two, Three}
 use Rattle.hub_base.specs.declared.limits.TheConstants.{MOST_BYTES}
 use Rattle.hub_base.specs.declared.read_fault.Kind.{Kind}
 use Rattle.hub_base.specs.declared.read_fault.Kind.TheVariants.{TooLong}
@@ -27,6 +27,7 @@ use Rattle.std.specs.Prelude.{OnOk, IfErr}
 pub first-row : (e : Edition) (x : List ℕ) → rows (first_line e ++ x) ≡ header_row e ∷ rows x
 first-row One x = refl
 first-row Two x = refl
+first-row Three x = refl
 
 module _ (head : Head) (is : IsHead head) where
   procs-lack : lacks 10 (procs_line head.procs) ≡ true

@@ -3,7 +3,7 @@ use Rattle.std.proofs.Common.{◌≡◌, ℕ, List, [], ◌∷◌, ◌++◌, cod
 use Rattle.std.proofs.Common.{append-nil, ◌≢◌, true}
 use Rattle.std.specs.Prelude.{drop}
 use Rattle.hub_base.specs.declared.head.Edition.{Edition}
-use Rattle.hub_base.specs.declared.head.Edition.TheVariants.{One, Two}
+use Rattle.hub_base.specs.declared.head.Edition.TheVariants.{One, Two, Three}
 use Rattle.hub_base.specs.declared.head.Head.{Head}
 use Rattle.hub_base.specs.declared.read_fault.Kind.{Kind}
 use Rattle.hub_base.specs.declared.read_fault.Kind.TheVariants.{BadProcs}
@@ -68,10 +68,12 @@ module _ (bytes body : List ℕ) (line : IsLine bytes body) where
 header-row : (e : Edition) (x : List ℕ) → rows (first_line e ++ x) ≡ header_row e ∷ rows x
 header-row One x = refl
 header-row Two x = refl
+header-row Three x = refl
 
 header-says : (e : Edition) → edition_of (header e) ≡ Some e
 header-says One = refl
 header-says Two = refl
+header-says Three = refl
 
 cc-some : (a b : Edition) → Some a ≡ Some b → a ≡ b
 cc-some a b h = cc

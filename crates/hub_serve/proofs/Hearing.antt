@@ -10,7 +10,7 @@ use Rattle.hub_base.specs.declared.limits.TheConstants.{MOST_BYTES}
 use Rattle.hub_base.specs.declared.read_fault.Kind.TheVariants.{TooLong, CutLine, BadProcs}
 use Rattle.hub_base.specs.declared.read_fault.TextFault.{TextFault}
 use Rattle.hub_base.specs.declared.head.Edition.{Edition}
-use Rattle.hub_base.specs.declared.head.Edition.TheVariants.{One, Two}
+use Rattle.hub_base.specs.declared.head.Edition.TheVariants.{One, Two, Three}
 use Rattle.hub_base.specs.Reading.{Faulty, Row, rows, front, read_text, end_of}
 use Rattle.hub_replay.specs.Verify.{newlines_in}
 use Rattle.hub_serve.specs.declared.conversation.Conversation.{Conversation}
@@ -118,6 +118,7 @@ empty-by (x ∷ xs) h = absurd (omega arith)
 alone : (e : Edition) → read_text (first_line e ++ []) ≡ Faulty 2 BadProcs
 alone One = refl
 alone Two = refl
+alone Three = refl
 
 pub none-there : (o : Option Running) → is_some o ≡ false → o ≡ None
 none-there None h = refl

@@ -7,7 +7,7 @@ use Rattle.std.specs.Prelude.{nat_lt}
 use Rattle.std.specs.List.{flat_map}
 use Rattle.hub_base.specs.Entry.{Entry}
 use Rattle.hub_base.specs.declared.head.Edition.{Edition}
-use Rattle.hub_base.specs.declared.head.Edition.TheVariants.{One, Two}
+use Rattle.hub_base.specs.declared.head.Edition.TheVariants.{One, Two, Three}
 use Rattle.hub_base.specs.declared.head.Head.{Head}
 use Rattle.hub_base.specs.declared.limits.TheConstants.{MOST_BYTES}
 use Rattle.hub_base.specs.declared.read_fault.Kind.{Kind}
@@ -93,6 +93,7 @@ module _ (lines : List ℕ) (head : Head) (entries : List Entry) (t : IsText lin
 first-length : (e : Edition) → length (first_line e) ≡ 18
 first-length One = refl
 first-length Two = refl
+first-length Three = refl
 
 failing : (k : ℕ) (said : Reading) (o : Option Kind) (kind : Kind) → o ≡ Some kind → faulty_or k said o ≡ Faulty k kind
 failing k said o kind h = ap (faulty_or k said) h

@@ -3,7 +3,7 @@ use Rattle.std.specs.Prelude.{ℕ, nat_lt, ◌^◌, Bool, true, false, List, [],
 use Rattle.std.specs.Int.Bits.{bit_or}
 use Rattle.hub_base.specs.declared.case.Case.{Case}
 use Rattle.hub_base.specs.declared.case.Case.TheVariants.{Send, Recv}
-use Rattle.hub_base.specs.declared.entry.Step.TheVariants.{Make, Call, Close, Exit, Cancel}
+use Rattle.hub_base.specs.declared.entry.Step.TheVariants.{Make, Call, Close, Exit, Cancel, Start, Reopen}
 use Rattle.hub_base.specs.declared.event.Event.{Event}
 use Rattle.hub_base.specs.declared.event.Outcome.{Outcome}
 use Rattle.hub_base.specs.declared.event.Outcome.TheVariants.{Sent, Got, Drained, Closed}
@@ -117,6 +117,10 @@ only_next number what = record { number = number; what = what; other = 0; port =
 abbrev pub next_on : ℕ → ℕ → ℕ → NextC
 next_on number what p = record (only_next number what) { port = p }
 
+-- for this process
+abbrev pub next_for : ℕ → ℕ → ℕ → NextC
+next_for number what q = record (only_next number what) { other = q }
+
 -- a call of one case
 abbrev pub case_next : ℕ → Case → NextC
 case_next n (Send p v) = next_on n number.STEP_SEND p.0
@@ -134,7 +138,9 @@ step_next n (Make cap) = only_next n number.STEP_MAKE
 step_next n (Call cases default word) = call_next n cases.items default
 step_next n (Close p) = next_on n number.STEP_CLOSE p.0
 step_next n Exit = only_next n number.STEP_EXIT
-step_next n (Cancel q) = record (only_next n number.STEP_CANCEL) { other = q.0 }
+step_next n (Cancel q) = next_for n number.STEP_CANCEL q.0
+step_next n (Start q) = next_for n number.STEP_START q.0
+step_next n (Reopen p cap) = next_on n number.STEP_REOPEN p.0
 
 abbrev pub next_told : Option (ℕ × Entry) → NextC
 next_told None = only_next 0 0

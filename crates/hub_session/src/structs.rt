@@ -27,7 +27,8 @@ pub const FAULT: u8 = 10;
 /// Another process cancelled the call.
 pub const CANCELLED: u8 = 11;
 
-/// The fault of what is not asked of a hub, or not of one of its edition. The numbers below it are those of `Fault`.
+/// The fault of what is not asked of a hub, or not of one of its edition. The numbers below it are those of `Fault`, as are 16
+/// and 17.
 pub const BAD_CALL: u8 = 13;
 /// The fault of a step that the journal that is followed has not: the hub has diverged from it.
 pub const DIVERGED: u8 = 14;
@@ -55,6 +56,10 @@ pub const STEP_CLOSE: u8 = 6;
 pub const STEP_EXIT: u8 = 7;
 /// A step ends the open call of another process.
 pub const STEP_CANCEL: u8 = 8;
+/// A step starts another process again.
+pub const STEP_START: u8 = 9;
+/// A step opens a port again.
+pub const STEP_REOPEN: u8 = 10;
 
 /// A journal has no clock: the number of no process.
 pub const NO_CLOCK: u8 = MOST_PROCS as u8;
@@ -166,10 +171,10 @@ pub struct FollowC {
 pub struct NextC {
     /// The number of the step in the journal, from 1.
     pub number: u32,
-    /// What it is, `STEP_MAKE` to `STEP_CANCEL`.
+    /// What it is, `STEP_MAKE` to `STEP_REOPEN`.
     pub what: u8,
-    /// Whom a cancel cancels; else 0.
+    /// Whom a cancel cancels, or a start starts; else 0.
     pub other: u8,
-    /// The port of a send, a receive or a close; else 0.
+    /// The port of a send, a receive, a close or a reopen; else 0.
     pub port: u16,
 }

@@ -4,12 +4,12 @@ ghost use Rattle.std.specs.Prelude.{◌≡◌, ℕ, Err, None, Ok};
 ghost use Rattle.hub_base.specs.Content.Content.{Num};
 ghost use Rattle.hub_base.specs.Value.{content, number_in};
 ghost use Rattle.hub_session.specs.Structs.{told_as, value_told};
-ghost use Rattle.hub_session.specs.Tells.{bad_call, bit_of, bits_of, call_next, came_told, case_next, clock_told, counts_told, diverged_told, fault_told, next_on, next_told, only_next, only_told, outcome_told, step_next, what_told};
+ghost use Rattle.hub_session.specs.Tells.{bad_call, bit_of, bits_of, call_next, came_told, case_next, clock_told, counts_told, diverged_told, fault_told, next_for, next_on, next_told, only_next, only_told, outcome_told, step_next, what_told};
 
 use crate::structs::{
     BAD_CALL, CANCELLED, CLOSED, CountsC, DEFAULT, DIVERGED, DONE, DRAINED, FAULT, GOT, MADE,
     NO_CLOCK, NextC, PARKED, SENT, STALLED, STEP_CANCEL, STEP_CLOSE, STEP_EXIT, STEP_MAKE,
-    STEP_RECV, STEP_SELECT, STEP_SELECT_DEFAULT, STEP_SEND, ToldC, ValueC,
+    STEP_RECV, STEP_REOPEN, STEP_SELECT, STEP_SELECT_DEFAULT, STEP_SEND, STEP_START, ToldC, ValueC,
 };
 use hub_base::{
     Case, Entry, Event, Fault, MOST_PROCS, MOST_VALUE_BYTES, Outcome, Pid, Port, Step, Value, What,
@@ -208,6 +208,18 @@ fn next_on(number: u32, what: u8, port: Port) -> NextC
     }
 }
 
+/// What a step for this process is.
+fn next_for(number: u32, what: u8, pid: Pid) -> NextC
+    ensures { result ≡ next_for number what pid.0 }
+{
+    NextC {
+        number,
+        what,
+        other: pid.0,
+        port: 0,
+    }
+}
+
 /// What a call of one case is.
 fn case_next(number: u32, case: Case) -> NextC
     ensures { result ≡ case_next number case }
@@ -238,12 +250,9 @@ fn step_next(number: u32, step: &Step) -> NextC
         Step::Call { cases, default, .. } => call_next(number, cases.as_slice(), *default),
         Step::Close(port) => next_on(number, STEP_CLOSE, *port),
         Step::Exit => only_next(number, STEP_EXIT),
-        Step::Cancel(pid) => NextC {
-            number,
-            what: STEP_CANCEL,
-            other: pid.0,
-            port: 0,
-        },
+        Step::Cancel(pid) => next_for(number, STEP_CANCEL, *pid),
+        Step::Start(pid) => next_for(number, STEP_START, *pid),
+        Step::Reopen { port, .. } => next_on(number, STEP_REOPEN, *port),
     }
 }
 

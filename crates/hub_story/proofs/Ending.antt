@@ -14,7 +14,7 @@ use Rattle.std.proofs.lemmas.Option.{none-some, slice_get-get_or}
 use Rattle.hub_base.specs.declared.head.Head.{Head}
 use Rattle.hub_base.specs.declared.value.Pid.{Pid}
 use Rattle.hub_base.specs.Entry.{Entry, Step}
-use Rattle.hub_base.specs.declared.entry.Step.TheVariants.{Make, Call, Close, Exit, Cancel}
+use Rattle.hub_base.specs.declared.entry.Step.TheVariants.{Make, Call, Close, Exit, Cancel, Start, Reopen}
 use Rattle.hub_base.specs.declared.event.Event.{Event}
 use Rattle.hub_base.specs.State.{opening}
 use Rattle.hub_base.specs.Values.{Turned, turns_after, refused}
@@ -136,6 +136,8 @@ step-below (Make cap) place k before old here a is = old a is
 step-below (Close p) place k before old here a is = old a is
 step-below Exit place k before old here a is = old a is
 step-below (Cancel q) place k before old here a is = old a is
+step-below (Start q) place k before old here a is = old a is
+step-below (Reopen p cap) place k before old here a is = old a is
 
 latest-below : (pid : Pid) (place : ℕ) (before : Option ℕ) (t : Turned) → ((a : ℕ) → before ≡ Some a → a < place + 1) →
     (a : ℕ) → latest_asked pid place before t ≡ Some a → a < place + 1

@@ -8,7 +8,7 @@ use Rattle.std.proofs.lemmas.Bool.{eqb-true, eqb-false}
 use Rattle.std.proofs.lemmas.List.Folds.{find-append}
 use Rattle.hub_base.specs.declared.value.Pid.{Pid}
 use Rattle.hub_base.specs.Entry.{Entry, Step}
-use Rattle.hub_base.specs.declared.entry.Step.TheVariants.{Make, Call, Close, Exit, Cancel}
+use Rattle.hub_base.specs.declared.entry.Step.TheVariants.{Make, Call, Close, Exit, Cancel, Start, Reopen}
 use Rattle.hub_base.specs.declared.event.What.{What}
 use Rattle.hub_base.specs.declared.event.What.TheVariants as what
 use Rattle.hub_base.specs.declared.event.Event.{Event}
@@ -44,6 +44,8 @@ step-of es pid place (Make cap) before own old a is = old a is
 step-of es pid place (Close p) before own old a is = old a is
 step-of es pid place Exit before own old a is = old a is
 step-of es pid place (Cancel q) before own old a is = old a is
+step-of es pid place (Start q) before own old a is = old a is
+step-of es pid place (Reopen p cap) before own old a is = old a is
 
 latest-of : (es : List Entry) (pid : Pid) (place : ℕ) (before : Option ℕ) (t : Turned) → slice_get es place ≡ Some t.entry →
     ((a : ℕ) → before ≡ Some a → IsOf es pid a) → (a : ℕ) → latest_asked pid place before t ≡ Some a → IsOf es pid a

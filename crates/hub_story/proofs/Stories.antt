@@ -11,7 +11,7 @@ use Rattle.hub_base.specs.declared.value.Pid.{Pid}
 use Rattle.hub_base.specs.declared.value.Value.{Value}
 use Rattle.hub_base.specs.declared.case.Case.{Case}
 use Rattle.hub_base.specs.Entry.{Entry, Step}
-use Rattle.hub_base.specs.declared.entry.Step.TheVariants.{Make, Call, Close, Exit, Cancel}
+use Rattle.hub_base.specs.declared.entry.Step.TheVariants.{Make, Call, Close, Exit, Cancel, Start, Reopen}
 use Rattle.hub_base.specs.declared.event.Outcome.{Outcome}
 use Rattle.hub_base.specs.declared.event.What.{What}
 use Rattle.hub_base.specs.declared.event.What.TheVariants as what
@@ -78,6 +78,8 @@ call-cases es place e before here = by e.step refl
     by (Close p) h = refl
     by Exit h = refl
     by (Cancel q) h = refl
+    by (Start q) h = refl
+    by (Reopen p cap) h = refl
 
 -- the last call has the cases that the definition of values takes
 latest-cases : (es : List Entry) (pid : Pid) (place : ℕ) (before : Option ℕ) (t : Turned) → slice_get es place ≡ Some t.entry →

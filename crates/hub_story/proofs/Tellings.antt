@@ -11,7 +11,7 @@ use Rattle.std.proofs.lemmas.List.{get_or-set_same, get_or-set_other, length-tak
 use Rattle.hub_base.specs.declared.head.Head.{Head}
 use Rattle.hub_base.specs.declared.value.Pid.{Pid}
 use Rattle.hub_base.specs.Entry.{Entry, Step}
-use Rattle.hub_base.specs.declared.entry.Step.TheVariants.{Make, Call, Close, Exit, Cancel}
+use Rattle.hub_base.specs.declared.entry.Step.TheVariants.{Make, Call, Close, Exit, Cancel, Start, Reopen}
 use Rattle.hub_base.specs.declared.event.Event.{Event}
 use Rattle.hub_base.specs.State.{State, opening}
 use Rattle.hub_base.specs.Runs.{state, moves}
@@ -53,6 +53,10 @@ step_in calls q place Exit pid true is fits = refl
 step_in calls q place Exit pid false is fits = refl
 step_in calls q place (Cancel r) pid true is fits = refl
 step_in calls q place (Cancel r) pid false is fits = refl
+step_in calls q place (Start r) pid true is fits = refl
+step_in calls q place (Start r) pid false is fits = refl
+step_in calls q place (Reopen p cap) pid true is fits = refl
+step_in calls q place (Reopen p cap) pid false is fits = refl
 
 call_in-with : (calls : List (Option ℕ)) (place : ℕ) (t : Turned) (pid : Pid) → t.entry.pid.0 < length calls →
     call_in (with_call calls place t) pid ≡ latest_asked pid place (call_in calls pid) t
@@ -72,6 +76,8 @@ length-with_step calls q place (Make cap) = refl
 length-with_step calls q place (Close p) = refl
 length-with_step calls q place Exit = refl
 length-with_step calls q place (Cancel r) = refl
+length-with_step calls q place (Start r) = refl
+length-with_step calls q place (Reopen p cap) = refl
 
 length-with_call : (calls : List (Option ℕ)) (place : ℕ) (t : Turned) → length (with_call calls place t) ≡ length calls
 length-with_call calls place t = by (refused t.events)

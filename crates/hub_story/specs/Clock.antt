@@ -8,7 +8,7 @@ use Rattle.hub_base.specs.declared.case.Case.{Case}
 use Rattle.hub_base.specs.declared.case.Case.TheVariants.{Recv}
 use Rattle.hub_base.specs.declared.head.Head.{Head}
 use Rattle.hub_base.specs.Entry.{Entry, Step}
-use Rattle.hub_base.specs.declared.entry.Step.TheVariants.{Make, Call, Close, Cancel}
+use Rattle.hub_base.specs.declared.entry.Step.TheVariants.{Make, Call, Close, Cancel, Start, Reopen}
 use Rattle.hub_base.specs.Head.{has_cancel}
 use Rattle.hub_base.specs.Reading.{is_exit}
 use Rattle.hub_story.specs.declared.clock.Kind.{Kind}
@@ -26,6 +26,8 @@ is_of_kind CancelStep (Cancel q) = true
 is_of_kind Other (Make cap) = true
 is_of_kind Other (Call cases default word) = default || not (is_nil_receive cases.items)
 is_of_kind Other (Close p) = true
+is_of_kind Other (Start q) = true
+is_of_kind Other (Reopen p cap) = true
 is_of_kind kind other = false
 
 -- process n makes such a step
@@ -53,7 +55,7 @@ steps_made n es = count_by (is_step_of n) es
 abbrev pub keeps_time : ℕ → List Entry → Bool
 keeps_time n es = makes_some NilReceive n es && not (makes_some Other n es) && (makes_first n es || nat_lt 1 (steps_made n es))
 
--- the clock of a journal, if it has one: in the second edition the last of several processes, where it does that
+-- the clock of a journal, if it has one: from the second edition on the last of several processes, where it does that
 abbrev pub clock_of : Head → List Entry → Option Pid
 clock_of h es =
     if has_cancel h.edition && nat_lt 1 h.procs && keeps_time (h.procs - 1) es then Some (record { 0 = h.procs - 1 }) else None

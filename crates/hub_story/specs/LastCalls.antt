@@ -3,7 +3,7 @@ use Rattle.std.specs.Prelude.{◌≡◌, ℕ, List, Option, None, Some, slice_in
 use Rattle.std.specs.Option.{option_map}
 use Rattle.hub_base.specs.declared.value.Pid.{Pid}
 use Rattle.hub_base.specs.Entry.{Step}
-use Rattle.hub_base.specs.declared.entry.Step.TheVariants.{Make, Call, Close, Exit, Cancel}
+use Rattle.hub_base.specs.declared.entry.Step.TheVariants.{Make, Call, Close, Exit, Cancel, Start, Reopen}
 use Rattle.hub_base.specs.declared.event.Event.{Event}
 use Rattle.hub_base.specs.Values.{Turned, refused}
 use Rattle.hub_story.specs.declared.told.Told.{Told}
@@ -20,6 +20,8 @@ with_step calls pid place (Call cases default word) = slice_set calls pid (Some 
 with_step calls pid place (Close p) = calls
 with_step calls pid place Exit = calls
 with_step calls pid place (Cancel q) = calls
+with_step calls pid place (Start q) = calls
+with_step calls pid place (Reopen p cap) = calls
 
 -- after the turn at this place
 abbrev pub with_call : List (Option ℕ) → ℕ → Turned → List (Option ℕ)

@@ -6,7 +6,7 @@ use Rattle.std.specs.List.{filter_map, find}
 use Rattle.std.specs.Option.{option_map}
 use Rattle.hub_base.specs.declared.value.Pid.{Pid}
 use Rattle.hub_base.specs.Entry.{Entry, Step}
-use Rattle.hub_base.specs.declared.entry.Step.TheVariants.{Make, Call, Close, Exit, Cancel}
+use Rattle.hub_base.specs.declared.entry.Step.TheVariants.{Make, Call, Close, Exit, Cancel, Start, Reopen}
 use Rattle.hub_base.specs.declared.head.Head.{Head}
 use Rattle.hub_base.specs.declared.event.What.{What}
 use Rattle.hub_base.specs.declared.event.What.TheVariants as what
@@ -34,6 +34,8 @@ call_or (Call cases default word) now before = now
 call_or (Close p) now before = before
 call_or Exit now before = before
 call_or (Cancel q) now before = before
+call_or (Start q) now before = before
+call_or (Reopen p cap) now before = before
 
 -- where the last call of a process stands that was not refused, after the turn at this place
 abbrev pub latest_asked : Pid → ℕ → Option ℕ → Turned → Option ℕ

@@ -37,7 +37,9 @@ fn is_of_kind(kind: Kind, step: &StepRef<'_>) -> bool
             !*default && is_nil_receive(cases.as_slice())
         }
         (Kind::CancelStep, Step::Cancel(_)) => true,
-        (Kind::Other, Step::Make(_) | Step::Close(_)) => true,
+        (Kind::Other, Step::Make(_) | Step::Close(_) | Step::Start(_) | Step::Reopen { .. }) => {
+            true
+        }
         (Kind::Other, Step::Call { cases, default, .. }) => {
             *default || !is_nil_receive(cases.as_slice())
         }

@@ -126,5 +126,7 @@ pub(crate) fn fault_words(fault: Fault) -> &'static [u8]
         Fault::JournalFull => b"the journal is full",
         Fault::NoMemory => b"out of memory",
         Fault::NotParked => b"that process does not wait",
+        Fault::InUse => b"the port is in use",
+        Fault::NotGone => b"that process has not exited",
     }
 }

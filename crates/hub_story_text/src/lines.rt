@@ -23,7 +23,7 @@ fn put_asks(out: &mut Vec<u8>, entry: &EntryRef<'_>) -> Result<(), NoMemory>
     ensures { OnOk result (out.new.items ≡ out.old.items ++ asks entry.now) }
 {
     out.extend_from_slice(b"P")?;
-    write_entry(out, Edition::Two, entry)?;
+    write_entry(out, Edition::Three, entry)?;
     out.truncate(out.len() - 1);
     Ok(())
 }

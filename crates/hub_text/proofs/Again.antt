@@ -1,5 +1,5 @@
 -- What an entry spells is read as that entry.
-use Rattle.std.proofs.Common.{◌≡◌, ℕ, zero, suc, ◌≤◌, ◌<◌, ◌^◌, Bool, true, false, ◌&&◌, cond, List, []}
+use Rattle.std.proofs.Common.{◌≡◌, ℕ, zero, suc, ◌≤◌, ◌<◌, ◌^◌, Bool, true, false, cond, List, []}
 use Rattle.std.proofs.Common.{◌∷◌, ◌++◌, length, map, refl, ap, ◌∙◌, Ok, Err, arith, codes}
 use Rattle.std.proofs.lemmas.Grind.{common_steps}
 use Rattle.std.proofs.lemmas.List.{length-map}
@@ -8,14 +8,15 @@ use Rattle.std.specs.List.{AllByRecursion, list_all}
 use Rattle.hub_base.specs.declared.case.Case.{Case}
 use Rattle.hub_base.specs.declared.case.Case.TheVariants.{Send, Recv}
 use Rattle.hub_base.specs.Entry.{Entry, Step}
-use Rattle.hub_base.specs.declared.entry.Step.TheVariants.{Make, Call, Close, Exit, Cancel}
+use Rattle.hub_base.specs.declared.entry.Step.TheVariants.{Make, Call, Close, Exit, Cancel, Start, Reopen}
 use Rattle.hub_base.specs.declared.head.Edition.{Edition}
 use Rattle.hub_base.specs.declared.limits.TheConstants.{CASE_PLACES, GREATEST_PID, GREATEST_PORT, GREATEST_CAP, GREATEST_WORD}
 use Rattle.hub_base.specs.declared.read_fault.Kind.TheVariants.{BadStep}
-use Rattle.hub_base.specs.Head.{has_case, is_of}
+use Rattle.hub_base.specs.Head.{has_cancel, has_case, has_lives, is_of}
+use Rattle.hub_base.specs.declared.head.Edition.TheVariants.{One, Two, Three}
 use Rattle.hub_base.specs.Value.{value_field}
 use Rattle.hub_base.specs.Lines.Draft.{Sends, Receives}
-use Rattle.hub_base.specs.Lines.{numeral, ◌>>=◌, Draft, read_one, read_cancel, read_select, read_fields, choose, step_fields, call_fields}
+use Rattle.hub_base.specs.Lines.{numeral, ◌>>=◌, Draft, read_one, read_select, read_fields, choose, step_fields, call_fields}
 use Rattle.hub_base.specs.Lines.{select_fields, default_field, case_field, case_of, cases_of, draft_of, drafts_of}
 use Rattle.hub_base.specs.Lines.{send_draft, recv_draft, spelled, ends_default, last_default, same_text, by, call}
 use Rattle.hub_base.specs.Text.{Fits, CaseFits, CallFits, StepFits, fields_of}
@@ -122,15 +123,38 @@ call-again ed pid (Recv p ∷ []) false (suc w) small fits has = select-again ed
 call-again ed pid (Send p v ∷ c ∷ cs) d w small fits has = select-again ed pid (Send p v ∷ c ∷ cs) d w small fits has refl refl
 call-again ed pid (Recv p ∷ c ∷ cs) d w small fits has = select-again ed pid (Recv p ∷ c ∷ cs) d w small fits has refl refl
 
+cancel-again : (ed : Edition) (pid q : ℕ) → pid ≤ GREATEST_PID → q ≤ GREATEST_PID → has_cancel ed ≡ true
+    → read_fields ed (decimal pid ∷ step_fields (Cancel (record { 0 = q }))) ≡ Ok (by pid (Cancel (record { 0 = q })))
+cancel-again One pid q small fits has = cc
+cancel-again Two pid q small fits has = one-again GREATEST_PID (λ q. Cancel (record { 0 = q })) pid q (omega arith) small fits
+cancel-again Three pid q small fits has = one-again GREATEST_PID (λ q. Cancel (record { 0 = q })) pid q (omega arith) small fits
+
+start-again : (ed : Edition) (pid q : ℕ) → pid ≤ GREATEST_PID → q ≤ GREATEST_PID → has_lives ed ≡ true
+    → read_fields ed (decimal pid ∷ step_fields (Start (record { 0 = q }))) ≡ Ok (by pid (Start (record { 0 = q })))
+start-again One pid q small fits has = cc
+start-again Two pid q small fits has = cc
+start-again Three pid q small fits has = one-again GREATEST_PID (λ q. Start (record { 0 = q })) pid q (omega arith) small fits
+
+reopen-again : (ed : Edition) (pid p cap : ℕ) → pid ≤ GREATEST_PID → p ≤ GREATEST_PORT → cap ≤ GREATEST_CAP → has_lives ed ≡ true
+    → read_fields ed (decimal pid ∷ step_fields (Reopen (record { 0 = p }) cap)) ≡ Ok (by pid (Reopen (record { 0 = p }) cap))
+reopen-again One pid p cap small fits few has = cc
+reopen-again Two pid p cap small fits few has = cc
+reopen-again Three pid p cap small fits few has =
+    ap (λ r. r >>= λ pid. numeral GREATEST_PORT (decimal p) >>= λ p. numeral GREATEST_CAP (decimal cap) >>= λ cap. Ok (by pid (Reopen (record { 0 = p }) cap)))
+    (numeral-again GREATEST_PID pid (omega arith) small)
+    ∙ ap (λ r. r >>= λ p. numeral GREATEST_CAP (decimal cap) >>= λ cap. Ok (by pid (Reopen (record { 0 = p }) cap)))
+    (numeral-again GREATEST_PORT p (omega arith) fits)
+    ∙ ap (λ r. r >>= λ cap. Ok (by pid (Reopen (record { 0 = p }) cap))) (numeral-again GREATEST_CAP cap (omega arith) few)
+
 step-again : (ed : Edition) (pid : ℕ) (step : Step) → pid ≤ GREATEST_PID → StepFits step → is_of ed step ≡ true
     → read_fields ed (decimal pid ∷ step_fields step) ≡ Ok (by pid step)
 step-again ed pid (Make cap) small fits of_edition = one-again GREATEST_CAP Make pid cap (omega arith) small fits
 step-again ed pid (Call cases d w) small fits of_edition = call-again ed pid cases.items d w small fits of_edition
 step-again ed pid (Close p) small fits of_edition = one-again GREATEST_PORT (λ p. Close (record { 0 = p })) pid p.0 (omega arith) small fits
 step-again ed pid Exit small fits of_edition = ap (λ r. r >>= λ pid. Ok (by pid Exit)) (numeral-again GREATEST_PID pid (omega arith) small)
-step-again ed pid (Cancel q) small fits of_edition =
-    ap (λ b. cond (b && true) (read_cancel (decimal pid) (decimal q.0 ∷ [])) (Err BadStep)) of_edition
-    ∙ one-again GREATEST_PID (λ q. Cancel (record { 0 = q })) pid q.0 (omega arith) small fits
+step-again ed pid (Start q) small fits of_edition = start-again ed pid q.0 small fits of_edition
+step-again ed pid (Reopen p cap) small fits of_edition = reopen-again ed pid p.0 cap small fits.0 fits.1 of_edition
+step-again ed pid (Cancel q) small fits of_edition = cancel-again ed pid q.0 small fits of_edition
 
 -- what an entry spells is read as that entry
 pub fields-again : (ed : Edition) (e : Entry) → Fits ed e → read_fields ed (fields_of e) ≡ Ok e

@@ -9,7 +9,7 @@ use Rattle.hub_base.specs.declared.case.Case.TheVariants.{Send, Recv}
 use Rattle.hub_base.specs.Entry.{Entry, Step}
 use Rattle.hub_base.specs.declared.head.Edition.{Edition}
 use Rattle.hub_base.specs.declared.limits.TheConstants.{GREATEST_PID, GREATEST_PORT, GREATEST_CAP, GREATEST_WORD}
-use Rattle.hub_base.specs.declared.entry.Step.TheVariants.{Make, Call, Close, Exit, Cancel}
+use Rattle.hub_base.specs.declared.entry.Step.TheVariants.{Make, Call, Close, Exit, Cancel, Start, Reopen}
 use Rattle.hub_base.specs.Lines.{step_fields, call_fields, select_fields, default_field, case_field, read_fields, pieces, line}
 use Rattle.hub_base.specs.Reading.{rows, front}
 use Rattle.hub_base.specs.Value.{value_field}
@@ -90,6 +90,11 @@ step-lacks m (Make cap) low fits = named m (codes "make") (decimal cap ∷ []) l
 step-lacks m (Call cases d w) low fits = call-lacks m cases.items d w low fits
 step-lacks m (Close p) low fits = named m (codes "close") (decimal p.0 ∷ []) low refl (one-lacks m GREATEST_PORT p.0 low (omega arith) fits)
 step-lacks m Exit low fits = named m (codes "exit") [] low refl refl
+step-lacks m (Start q) low fits = named m (codes "start") (decimal q.0 ∷ []) low refl (one-lacks m GREATEST_PID q.0 low (omega arith) fits)
+step-lacks m (Reopen p cap) low fits =
+    named m (codes "reopen") (decimal p.0 ∷ decimal cap ∷ []) low refl
+    (both (lacks m (decimal p.0)) (all_lack m (decimal cap ∷ [])) (decimal-lacks m p.0 low (small p.0 GREATEST_PORT fits.0 (omega arith)))
+    (one-lacks m GREATEST_CAP cap low (omega arith) fits.1))
 step-lacks m (Cancel q) low fits = named m (codes "cancel") (decimal q.0 ∷ []) low refl (one-lacks m GREATEST_PID q.0 low (omega arith) fits)
 
 -- no field of an entry holds such a mark

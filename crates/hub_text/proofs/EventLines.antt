@@ -123,7 +123,8 @@ read_fault n =
     if n == 1 then fault.NoProcess else if n == 2 then fault.Gone else if n == 3 then fault.Busy
     else if n == 4 then fault.TooManyCases else if n == 5 then fault.NoPort else if n == 6 then fault.BadCap
     else if n == 7 then fault.TooManyPorts else if n == 8 then fault.NilClose else if n == 9 then fault.AlreadyClosed
-    else if n == 10 then fault.JournalFull else if n == 11 then fault.NoMemory else fault.NotParked
+    else if n == 10 then fault.JournalFull else if n == 11 then fault.NoMemory else if n == 16 then fault.InUse
+    else if n == 17 then fault.NotGone else fault.NotParked
 
 fault-again : (f : Fault) → read_fault (fault_number f) ≡ f
 fault-again f = grind arith

@@ -6,7 +6,7 @@ use Rattle.std.specs.Prelude.{decimal, nat_lt}
 use Rattle.std.specs.List.{join_with_byte, AllByRecursion, flat_map}
 use Rattle.hub_base.specs.Entry.{Entry}
 use Rattle.hub_base.specs.declared.head.Edition.{Edition}
-use Rattle.hub_base.specs.declared.head.Edition.TheVariants.{One, Two}
+use Rattle.hub_base.specs.declared.head.Edition.TheVariants.{One, Two, Three}
 use Rattle.hub_base.specs.declared.head.Head.{Head}
 use Rattle.hub_base.specs.declared.limits.TheConstants.{MOST_PROCS, MOST_STEPS, MOST_BYTES}
 use Rattle.hub_base.specs.declared.read_fault.Kind.TheVariants.{TooLong}
@@ -75,6 +75,7 @@ procs-take bytes n h =
 header-length : (e : Edition) → length (header e) ≡ 17
 header-length One = refl
 header-length Two = refl
+header-length Three = refl
 
 head-length : (h : Head) → length (head_lines h) ≡ 18 + length (procs_line h.procs) + 1
 head-length h =
@@ -87,28 +88,34 @@ head-length h =
 pub first-place : (e : Edition) → end_of 0 (header_row e) ≡ 18
 first-place One = refl
 first-place Two = refl
+first-place Three = refl
 
 -- it is read as it is spelled
 pub header-again : (e : Edition) (rs : List Row) → reading (header_row e ∷ rs) ≡ procs_from e 18 rs
 header-again One rs = refl
 header-again Two rs = refl
+header-again Three rs = refl
 
 header-row : (e : Edition) (x : List ℕ) → rows (header e ++ (codes "\n" ++ x)) ≡ header_row e ∷ rows x
 header-row One x = refl
 header-row Two x = refl
+header-row Three x = refl
 
 header-joined : (e : Edition) (x y : List ℕ) → (header e ++ codes "\n") ++ (x ++ y) ≡ (header e ++ (codes "\n" ++ x)) ++ y
 header-joined One x y = refl
 header-joined Two x y = refl
+header-joined Three x y = refl
 
 -- what says this edition is its spelling
 pub edition-take : (bytes : List ℕ) (e : Edition) → edition_of bytes ≡ Some e → bytes ≡ header e
-edition-take bytes e h = go (same_text bytes (header One)) (same_text bytes (header Two)) refl refl h where
-  go : (a b : Bool) → same_text bytes (header One) ≡ a → same_text bytes (header Two) ≡ b → cond a (Some One) (cond b (Some Two) None) ≡ Some e
+edition-take bytes e h = go (same_text bytes (header One)) (same_text bytes (header Two)) (same_text bytes (header Three)) refl refl refl h where
+  go : (a b c : Bool) → same_text bytes (header One) ≡ a → same_text bytes (header Two) ≡ b → same_text bytes (header Three) ≡ c
+      → cond a (Some One) (cond b (Some Two) (cond c (Some Three) None)) ≡ Some e
       → bytes ≡ header e
-  go true b p q h = let is : One ≡ e = cc in same-true bytes (header One) p ∙ ap header is
-  go false true p q h = let is : Two ≡ e = cc in same-true bytes (header Two) q ∙ ap header is
-  go false false p q h = cc
+  go true b c p q r h = let is : One ≡ e = cc in same-true bytes (header One) p ∙ ap header is
+  go false true c p q r h = let is : Two ≡ e = cc in same-true bytes (header Two) q ∙ ap header is
+  go false false true p q r h = let is : Three ≡ e = cc in same-true bytes (header Three) r ∙ ap header is
+  go false false false p q r h = cc
 
 -- ---- a text is read
 pub heads-again : (h : Head) (rs : List Row) → IsHead h → length (head_lines h) ≤ MOST_BYTES

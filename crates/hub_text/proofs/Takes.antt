@@ -7,16 +7,17 @@ use Rattle.std.specs.List.{join_with_byte, list_all, AllByRecursion}
 use Rattle.hub_base.specs.declared.case.Case.{Case}
 use Rattle.hub_base.specs.declared.case.Case.TheVariants.{Send, Recv}
 use Rattle.hub_base.specs.Entry.{Entry, Step}
-use Rattle.hub_base.specs.declared.entry.Step.TheVariants.{Make, Close, Exit, Cancel}
+use Rattle.hub_base.specs.declared.entry.Step.TheVariants.{Make, Close, Exit, Cancel, Start, Reopen}
 use Rattle.hub_base.specs.declared.head.Edition.{Edition}
 use Rattle.hub_base.specs.declared.read_fault.Kind.{Kind}
-use Rattle.hub_base.specs.Head.{has_cancel, has_value, has_case, is_of}
+use Rattle.hub_base.specs.Head.{has_cancel, has_lives, has_value, has_case, is_of}
 use Rattle.hub_base.specs.declared.value.Value.{Value}
 use Rattle.hub_base.specs.Value.{IsValue, value_field}
 use Rattle.hub_base.specs.declared.limits.TheConstants.{CASE_PLACES, GREATEST_PID, GREATEST_PORT, GREATEST_CAP, GREATEST_WORD}
 use Rattle.hub_base.specs.declared.read_fault.Kind.TheVariants.{BadStep}
 use Rattle.hub_base.specs.Lines.Draft.{Sends, Receives}
-use Rattle.hub_base.specs.Lines.{numeral, value_read, ◌>>=◌, Draft, read_one, read_close, read_make, read_cancel, read_exit, read_send, read_recv}
+use Rattle.hub_base.specs.Lines.{numeral, value_read, ◌>>=◌, Draft, read_one, read_close, read_make, read_cancel, read_start, read_reopen, read_exit}
+use Rattle.hub_base.specs.Lines.{read_send, read_recv}
 use Rattle.hub_base.specs.Lines.{read_choice, read_select}
 use Rattle.hub_base.specs.Lines.{read_step, read_fields, choose, step_fields, call_fields, select_fields, default_field, case_field, case_of}
 use Rattle.hub_base.specs.Lines.{cases_of, draft_of, drafts_of, send_draft, recv_draft, spelled, ends_default, same_text, by, call, pieces}
@@ -57,6 +58,33 @@ pub cancel-takes : (ed : Edition) (pid : List ℕ) (fs : List (List ℕ)) (e : E
     → Spells ed (pid ∷ codes "cancel" ∷ fs) e
 cancel-takes ed pid fs e has h =
     one-takes ed (codes "cancel") GREATEST_PID (λ q. Cancel (record { 0 = q })) pid fs e (omega arith) (λ n. refl) (λ n fits. fits) (λ n. has) h
+
+-- a start
+pub start-takes : (ed : Edition) (pid : List ℕ) (fs : List (List ℕ)) (e : Entry) → has_lives ed ≡ true → read_start pid fs ≡ Ok e
+    → Spells ed (pid ∷ codes "start" ∷ fs) e
+start-takes ed pid fs e has h =
+    one-takes ed (codes "start") GREATEST_PID (λ q. Start (record { 0 = q })) pid fs e (omega arith) (λ n. refl) (λ n fits. fits) (λ n. has) h
+
+-- a reopen
+pub reopen-takes : (ed : Edition) (pid : List ℕ) (fs : List (List ℕ)) (e : Entry) → has_lives ed ≡ true → read_reopen pid fs ≡ Ok e
+    → Spells ed (pid ∷ codes "reopen" ∷ fs) e
+reopen-takes ed pid [] e has h = cc
+reopen-takes ed pid (p ∷ []) e has h = cc
+reopen-takes ed pid (p ∷ n ∷ []) e has h =
+    let a = bind_ok (numeral GREATEST_PID pid)
+    (λ pid. numeral GREATEST_PORT p >>= λ p. numeral GREATEST_CAP n >>= λ cap. Ok (by pid (Reopen (record { 0 = p }) cap))) e h in
+    let b = bind_ok (numeral GREATEST_PORT p) (λ p. numeral GREATEST_CAP n >>= λ cap. Ok (by a.0 (Reopen (record { 0 = p }) cap))) e a.2 in
+    let c = bind_ok (numeral GREATEST_CAP n) (λ cap. Ok (by a.0 (Reopen (record { 0 = b.0 }) cap))) e b.2 in
+    let x = numeral-ok GREATEST_PID pid a.0 (omega arith) a.1 in
+    let y = numeral-ok GREATEST_PORT p b.0 (omega arith) b.1 in
+    let z = numeral-ok GREATEST_CAP n c.0 (omega arith) c.1 in
+    let is : by a.0 (Reopen (record { 0 = b.0 }) c.0) ≡ e = cc in
+    subst (Spells ed (pid ∷ codes "reopen" ∷ p ∷ n ∷ [])) is (
+      ap (λ f. f ∷ codes "reopen" ∷ p ∷ n ∷ []) x.0 ∙ ap (λ f. decimal a.0 ∷ codes "reopen" ∷ f ∷ n ∷ []) y.0
+          ∙ ap (λ f. decimal a.0 ∷ codes "reopen" ∷ decimal b.0 ∷ f ∷ []) z.0,
+      record { pid = x.1; step = (y.1, z.1); of_edition = has },
+    )
+reopen-takes ed pid (p ∷ n ∷ q ∷ fs) e has h = cc
 
 -- an exit
 pub exit-takes : (ed : Edition) (pid : List ℕ) (fs : List (List ℕ)) (e : Entry) → read_exit pid fs ≡ Ok e → Spells ed (pid ∷ codes "exit" ∷ fs) e
@@ -308,6 +336,9 @@ step-takes ed pid word fs e h =
     let P : Type 0 = Spells ed (pid ∷ word ∷ fs) e in
     let has = has_cancel ed in
     let says = same_text word (codes "cancel") in
+    let lives = has_lives ed in
+    let starts = same_text word (codes "start") in
+    let reopens = same_text word (codes "reopen") in
     test (same_text word (codes "make")) _ _ e P (λ b x. under ed pid word (codes "make") fs e b (make-takes ed pid fs e x))
     (test (same_text word (codes "send")) _ _ e P (λ b x. under ed pid word (codes "send") fs e b (send-takes ed pid fs e x))
     (test (same_text word (codes "recv")) _ _ e P (λ b x. under ed pid word (codes "recv") fs e b (recv-takes ed pid fs e x))
@@ -315,7 +346,12 @@ step-takes ed pid word fs e h =
     (test (same_text word (codes "close")) _ _ e P (λ b x. under ed pid word (codes "close") fs e b (close-spells ed pid fs e x))
     (test (same_text word (codes "exit")) _ _ e P (λ b x. under ed pid word (codes "exit") fs e b (exit-takes ed pid fs e x))
     (test (has && says) _ _ e P
-    (λ b x. under ed pid word (codes "cancel") fs e (second-and has says b) (cancel-takes ed pid fs e (first-and has says b) x)) (none e P))))))) h
+    (λ b x. under ed pid word (codes "cancel") fs e (second-and has says b) (cancel-takes ed pid fs e (first-and has says b) x))
+    (test (lives && starts) _ _ e P
+    (λ b x. under ed pid word (codes "start") fs e (second-and lives starts b) (start-takes ed pid fs e (first-and lives starts b) x))
+    (test (lives && reopens) _ _ e P
+    (λ b x. under ed pid word (codes "reopen") fs e (second-and lives reopens b) (reopen-takes ed pid fs e (first-and lives reopens b) x))
+    (none e P))))))))) h
 
 -- what fields say is what they spell
 pub fields-take : (ed : Edition) (fs : List (List ℕ)) (e : Entry) → read_fields ed fs ≡ Ok e → Spells ed fs e

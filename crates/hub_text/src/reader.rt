@@ -42,6 +42,8 @@ fn edition_of(line: &[u8]) -> Option<Edition>
         Some(Edition::One)
     } else if same_text(line, header(Edition::Two)) {
         Some(Edition::Two)
+    } else if same_text(line, header(Edition::Three)) {
+        Some(Edition::Three)
     } else {
         None
     }

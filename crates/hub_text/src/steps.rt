@@ -3,7 +3,7 @@
 //! It is read into a given entry, which may be any after a fault.
 
 ghost use Rattle.std.specs.Prelude.{◌≡◌, ◌≤◌, ◌<◌, ◌∷◌, [], false, IfOk};
-ghost use Rattle.hub_base.specs.Lines.{numeral, read_exit, read_send, read_step, read_fields, pieces, case_of, recv_case, by, call, same_text};
+ghost use Rattle.hub_base.specs.Lines.{numeral, read_exit, read_send, read_reopen, read_step, read_fields, pieces, case_of, recv_case, by, call, same_text};
 ghost use Rattle.hub_base.specs.Lines.Draft.{Sends};
 ghost use Rattle.hub_text.specs.Filling.{Fills, read_one_number};
 
@@ -133,9 +133,10 @@ enum OneNumber {
     Recv,
     Close,
     Cancel,
+    Start,
 }
 
-/// What `P make C`, `P recv PORT`, `P close PORT` or `P cancel Q` says, from the field behind the word on.
+/// What `P make C`, `P recv PORT`, `P close PORT`, `P cancel Q` or `P start Q` says, from the field behind the word on.
 fn read_one_number(word: OneNumber, mut line: Line, entry: &mut Entry) -> Result<(), Kind>
     ensures { Fills result entry.new (read_one_number word line.entry.pid.now line.entry.fields) }
 {
@@ -147,6 +148,7 @@ fn read_one_number(word: OneNumber, mut line: Line, entry: &mut Entry) -> Result
         OneNumber::Recv => set_call(&mut entry.step, Case::Recv(Port(port_number(number)?))),
         OneNumber::Close => entry.step = Step::Close(Port(port_number(number)?)),
         OneNumber::Cancel => entry.step = Step::Cancel(Pid(process(number)?)),
+        OneNumber::Start => entry.step = Step::Start(Pid(process(number)?)),
     }
     Ok(())
 }
@@ -162,6 +164,24 @@ fn read_send(mut line: Line, entry: &mut Entry) -> Result<(), Kind>
     let case = send_of(line.edition, port, value)?;
     entry.pid = Pid(pid);
     set_call(&mut entry.step, case);
+    Ok(())
+}
+
+/// What `P reopen PORT C` says, from the field behind the word on.
+fn read_reopen(mut line: Line, entry: &mut Entry) -> Result<(), Kind>
+    ensures { Fills result entry.new (read_reopen line.entry.pid.now line.entry.fields) }
+{
+    let port = line.fields.expect_field()?;
+    let cap = line.fields.expect_field()?;
+    line.fields.expect_end()?;
+    let pid = process(line.pid)?;
+    let port = port_number(port)?;
+    let cap = capacity(cap)?;
+    entry.pid = Pid(pid);
+    entry.step = Step::Reopen {
+        port: Port(port),
+        cap,
+    };
     Ok(())
 }
 
@@ -195,6 +215,10 @@ fn read_step(word: &[u8], line: Line, entry: &mut Entry) -> Result<(), Kind>
         read_exit(line, entry)
     } else if line.edition.has_cancel() && same_text(word, b"cancel") {
         read_one_number(OneNumber::Cancel, line, entry)
+    } else if line.edition.has_lives() && same_text(word, b"start") {
+        read_one_number(OneNumber::Start, line, entry)
+    } else if line.edition.has_lives() && same_text(word, b"reopen") {
+        read_reopen(line, entry)
     } else {
         Err(Kind::BadStep)
     }

@@ -1,7 +1,7 @@
 //! Writing journals and events. A private function that is refused may leave a part behind, which
 //! the public one takes back.
 
-ghost use Rattle.std.specs.Prelude.{◌≡◌, ◌++◌, ◌∷◌, codes, decimal, length, OnOk, OnErr, IsOk, ◌↔◌, take, ◌≤◌, true};
+ghost use Rattle.std.specs.Prelude.{◌≡◌, ◌++◌, ◌∷◌, [], codes, decimal, length, OnOk, OnErr, IsOk, ◌↔◌, take, ◌≤◌, true};
 ghost use Rattle.hub_base.specs.EventText.{event_line, EventFits};
 ghost use Rattle.hub_base.specs.Lines.{case_field, select_fields, call_fields, step_fields, line};
 ghost use Rattle.std.specs.List.{flat_map};
@@ -189,6 +189,14 @@ fn put_call(out: &mut Vec<u8>, cases: &[Case], default: bool, word: u64) -> Resu
     }
 }
 
+/// Appends a reopen.
+fn put_reopen(out: &mut Vec<u8>, port: Port, cap: u32) -> Result<(), AllocError>
+    ensures { Appends out.old out.new (spaced (codes "reopen" ∷ decimal port.0 ∷ decimal cap ∷ [])) result }
+{
+    put_before_number(out, b" reopen ", port.0.into())?;
+    put_before_number(out, b" ", cap.into())
+}
+
 /// Appends a step, behind a space.
 fn put_step(out: &mut Vec<u8>, step: &StepRef<'_>) -> Result<(), AllocError>
     ensures { Appends out.old out.new (spaced (step_fields step.now)) result }
@@ -203,6 +211,8 @@ fn put_step(out: &mut Vec<u8>, step: &StepRef<'_>) -> Result<(), AllocError>
         Step::Close(port) => put_before_number(out, b" close ", port.0.into()),
         Step::Exit => put(out, b" exit"),
         Step::Cancel(pid) => put_before_number(out, b" cancel ", pid.0.into()),
+        Step::Start(pid) => put_before_number(out, b" start ", pid.0.into()),
+        Step::Reopen { port, cap } => put_reopen(out, *port, *cap),
     }
 }
 
@@ -242,6 +252,7 @@ pub fn header(edition: Edition) -> &'static [u8]
     match edition {
         Edition::One => b"chanhub journal 1",
         Edition::Two => b"chanhub journal 2",
+        Edition::Three => b"chanhub journal 3",
     }
 }
 

@@ -41,12 +41,12 @@ fn digits_of(number: u64) -> usize
     buffer.format(number).len()
 }
 
-/// The line of an entry, without its newline. The second edition has every entry.
+/// The line of an entry, without its newline. The third edition has every entry.
 fn entry_words(alloc: Global, entry: &EntryRef<'_>) -> Result<Vec<u8>, NoMemory>
     ensures { IfOk result (λ words. words.items ++ codes "\n" ≡ line entry.now) }
 {
     let mut line = Vec::new(alloc);
-    write_entry(&mut line, Edition::Two, entry)?;
+    write_entry(&mut line, Edition::Three, entry)?;
     line.truncate(line.len() - 1);
     Ok(line)
 }

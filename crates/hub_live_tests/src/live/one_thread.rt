@@ -179,3 +179,20 @@ pub(super) const SELECTING: &[(u8, Act)] = &[
     (0, Act::Selects(Told::Default)),
     (0, Act::Asks(Ask::Exit, DONE)),
 ];
+
+/// The refused send of process 1 makes no entry.
+pub(super) const COMING_BACK: &[(u8, Act)] = &[
+    (0, Act::Makes(1, Ok(1))),
+    (0, Act::Asks(Ask::Start, Told::Fault(Fault::NotGone))),
+    (1, Act::Asks(Ask::Exit, DONE)),
+    (1, Act::Asks(Ask::Send(7), Told::Refused(Fault::Gone))),
+    (0, Act::Asks(Ask::Start, DONE)),
+    (1, Act::Asks(Ask::Send(7), SENT)),
+    (0, Act::Asks(Ask::Close, DONE)),
+    (0, Act::Asks(Ask::Reopen(2), Told::Fault(Fault::InUse))),
+    (0, Act::Asks(Ask::Recv, Told::Got(7))),
+    (0, Act::Asks(Ask::Recv, DRAINED)),
+    (0, Act::Asks(Ask::Reopen(2), DONE)),
+    (0, Act::Sees(1, Some(RECEIVED))),
+    (1, Act::Asks(Ask::Send(8), SENT)),
+];

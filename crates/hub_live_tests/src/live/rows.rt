@@ -6,7 +6,7 @@ use super::refusals::{allocate, begin, pass_again};
 use super::stories::Story;
 use super::{Ask, Told, compare};
 use crate::compare::same;
-use hub_base::{Cases, CasesExt, Counts, Edition, Event, Fault, Pid, Port, Value};
+use hub_base::{Cases, CasesExt, Counts, Event, Fault, Pid, Port, Value};
 use hub_live::{Chan, Held, HubName, LiveHub};
 use hub_uses::{poll, share, waiting};
 use std::process::Abort;
@@ -39,7 +39,7 @@ pub(crate) enum Act {
     PassesAgain,
 }
 
-/// Makes the step. Only hubs of the second edition have cancels.
+/// Makes the step. A hub whose edition does not have it tells a fault that the step could have.
 pub(super) fn ask<K: HubName, R: Wait>(
     rt: &R,
     hub: &LiveHub<K>,
@@ -56,6 +56,8 @@ pub(super) fn ask<K: HubName, R: Wait>(
         Ask::RecvNil => seat.recv(rt, hub, &Chan::of(Port(0)).receiver()),
         Ask::Close => seat.close(rt, hub, &chan.sender()),
         Ask::Cancel => cancel(rt, hub, seat),
+        Ask::Start => start(rt, hub, seat),
+        Ask::Reopen(cap) => reopen(rt, hub, seat, cap),
         Ask::Exit => seat.exit(rt, hub),
     }
 }
@@ -63,10 +65,33 @@ pub(super) fn ask<K: HubName, R: Wait>(
 fn cancel<K: HubName, R: Wait>(rt: &R, hub: &LiveHub<K>, seat: &mut Held<K>) -> Result<Event, Fault>
     ensures { seat.new.pid ≡ seat.old.pid }
 {
-    if hub.head().edition != Edition::Two {
+    if !hub.head().edition.has_cancel() {
         return Err(Fault::NotParked);
     }
     seat.cancel(rt, hub, Pid(1))
+}
+
+fn start<K: HubName, R: Wait>(rt: &R, hub: &LiveHub<K>, seat: &mut Held<K>) -> Result<Event, Fault>
+    ensures { seat.new.pid ≡ seat.old.pid }
+{
+    if !hub.head().edition.has_lives() {
+        return Err(Fault::NotGone);
+    }
+    seat.start(rt, hub, Pid(1))
+}
+
+fn reopen<K: HubName, R: Wait>(
+    rt: &R,
+    hub: &LiveHub<K>,
+    seat: &mut Held<K>,
+    cap: u32,
+) -> Result<Event, Fault>
+    ensures { seat.new.pid ≡ seat.old.pid }
+{
+    if !hub.head().edition.has_lives() {
+        return Err(Fault::InUse);
+    }
+    seat.reopen(rt, hub, &Chan::of(Port(1)).sender(), cap)
 }
 
 fn select<K: HubName, R: Wait>(

@@ -36,10 +36,11 @@ pub(super) struct Story<'a> {
 }
 
 impl<'a> Story<'a> {
-    /// Only cancels need the second edition.
+    /// Only cancels need the second edition, and only starts and reopens the third.
     fn head(&self) -> Head {
         let edition = match self.crew {
             Crew::Cancel => Edition::Two,
+            Crew::Lives => Edition::Three,
             _ => Edition::One,
         };
         Head {
@@ -59,7 +60,7 @@ fn tell_held<K: HubName + Send + Sync, R: Runtime>(
     let mut seats = seats;
     follow(rt, hub, &mut seats, story);
     match story.crew {
-        Crew::None => Ok(seats),
+        Crew::None | Crew::Lives => Ok(seats),
         Crew::Plain => Ok(drain_plainly(rt, hub, seats)),
         Crew::HandOver => uses::hand_nine_over(rt, hub, seats),
         Crew::WorkOff => uses::work_off(rt, hub, seats),

@@ -1,6 +1,6 @@
 //! The stories of live hubs, of crews and of their uses. Those of refused memory stand in `refusals`.
 
-use super::one_thread::{LOOKING, MEETING, SELECTING, STALLING};
+use super::one_thread::{COMING_BACK, LOOKING, MEETING, SELECTING, STALLING};
 use super::rows::Act;
 use super::stories::{Row, tell_row};
 use super::tasks::Crew;
@@ -56,6 +56,8 @@ const STORIES: &[Row] = &[
     ("work_off", 1, (4, 1000), BUFFERED, Crew::WorkOff, Some(45)),
     // A poll finds nothing, and then the value of the channel that has one.
     ("poll", 1, (1, 1000), POLLING, Crew::None, Some(5)),
+    // A process that has exited makes steps again, and a port that is closed and drained takes values again.
+    ("lives", 1, (2, 100), COMING_BACK, Crew::Lives, Some(11)),
     // The second process knows of the close once both have met.
     ("share", 1, (2, 1000), SHARING, Crew::None, Some(2)),
 ];

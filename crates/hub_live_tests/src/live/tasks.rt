@@ -17,6 +17,8 @@ use std::thread;
 pub(crate) enum Crew {
     /// Nothing more.
     None,
+    /// Nothing more. The hub is of the third edition.
+    Lives,
     /// A value is sent and received, the port closed and drained, by a seat whose hub no type says.
     Plain,
     /// Process 0 sends 9 on port 1, every other receives from it.

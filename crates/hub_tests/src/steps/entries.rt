@@ -24,6 +24,9 @@ pub(crate) enum Ask {
     RecvEither(u16, u16),
     Close(u16),
     Cancel(u8),
+    Start(u8),
+    /// Opens a port again, with this capacity.
+    Reopen(u16, u32),
     Exit,
 }
 
@@ -65,6 +68,11 @@ pub(crate) fn entry_of(pid: u8, asked: Ask) -> Entry {
         }
         Ask::Close(port) => Step::Close(Port(port)),
         Ask::Cancel(other) => Step::Cancel(Pid(other)),
+        Ask::Start(other) => Step::Start(Pid(other)),
+        Ask::Reopen(port, cap) => Step::Reopen {
+            port: Port(port),
+            cap,
+        },
         Ask::Exit => Step::Exit,
     };
     Entry {

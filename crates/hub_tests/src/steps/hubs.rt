@@ -19,6 +19,8 @@ const STORIES: &[Story] = &[
     ),
     ("buffer_shows_its_values", Edition::One, 2, 100, BUFFERED),
     ("open_call_is_cancelled", Edition::Two, 3, 100, CANCELLING),
+    ("process_is_started_again", Edition::Three, 2, 100, STARTING),
+    ("port_is_opened_again", Edition::Three, 2, 100, REOPENING),
     (
         "full_journal_takes_exits_alone",
         Edition::One,
@@ -113,6 +115,60 @@ const CANCELLING: &[Row] = &[
     Row::Steps(0, Ask::Send(1, 6), &[(0, PARKED)]),
     Row::Keeps(11),
 ];
+
+const NOT_GONE: &[(u8, Told)] = &[(0, Told::Fault(Fault::NotGone))];
+
+// A process makes steps again once it is started, and exits again. Nobody else has exited.
+const STARTING: &[Row] = &[
+    Row::Steps(0, Ask::Make(1), &[(0, MADE)]),
+    Row::Steps(1, Ask::Exit, &[(1, DONE)]),
+    Row::Refuses(1, Ask::Send(1, 5), Fault::Gone),
+    Row::Steps(0, Ask::Start(1), &[(0, DONE)]),
+    Row::Steps(1, Ask::Send(1, 5), &[(1, SENT)]),
+    Row::Steps(0, Ask::Start(1), NOT_GONE),
+    Row::Steps(0, Ask::Start(0), NOT_GONE),
+    Row::Steps(0, Ask::Start(2), NOT_GONE),
+    Row::Steps(0, Ask::Start(255), NOT_GONE),
+    Row::Steps(1, Ask::Exit, &[(1, DONE)]),
+    Row::Steps(0, Ask::Start(1), &[(0, DONE)]),
+    Row::Steps(1, Ask::Exit, &[(1, DONE)]),
+    Row::Keeps(11),
+    Row::Steps(0, Ask::Recv(1), &[(0, Told::Got(0, 5))]),
+    Row::Steps(0, Ask::Recv(1), &[(0, PARKED), (0, STALLED)]),
+];
+
+const IN_USE: &[(u8, Told)] = &[(0, Told::Fault(Fault::InUse))];
+
+// A port is opened again once it is closed and drained. Its counts go on, and its capacity is another.
+const REOPENING: &[Row] = &[
+    Row::Steps(0, Ask::Make(2), &[(0, MADE)]),
+    Row::Steps(0, Ask::Reopen(1, 1), IN_USE),
+    Row::Steps(0, Ask::Send(1, 5), &[(0, SENT)]),
+    Row::Steps(0, Ask::Close(1), &[(0, DONE)]),
+    Row::Steps(0, Ask::Reopen(1, 1), IN_USE),
+    Row::Steps(0, Ask::Recv(1), &[(0, Told::Got(0, 5))]),
+    Row::Steps(0, Ask::Reopen(2, 1), &[(0, Told::Fault(Fault::NoPort))]),
+    Row::Steps(0, Ask::Reopen(0, 1), &[(0, Told::Fault(Fault::NilClose))]),
+    Row::Steps(0, Ask::Reopen(1, 1025), &[(0, Told::Fault(Fault::BadCap))]),
+    Row::Steps(0, Ask::Reopen(1, 1), &[(0, DONE)]),
+    Row::Shows(1, Some(REOPENED)),
+    Row::Steps(0, Ask::Send(1, 6), &[(0, SENT)]),
+    Row::Steps(1, Ask::Send(1, 7), &[(1, PARKED)]),
+    Row::Holds(1, 0, Some(6)),
+    Row::Holds(1, 1, None),
+    Row::Keeps(12),
+];
+
+/// One value was sent and received, and the port is open again.
+const REOPENED: Look = Look {
+    cap: 1,
+    counts: Counts {
+        len: 0,
+        sent: 1,
+        received: 1,
+        closed: false,
+    },
+};
 
 // No step but an exit is made once the journal is full.
 const FILLING: &[Row] = &[

@@ -109,6 +109,8 @@ const BAD: &[(Bad, u8, &str)] = &[
     (Bad::Step(Fault::JournalFull), 10, "the journal is full"),
     (Bad::Step(Fault::NoMemory), 11, "out of memory"),
     (Bad::Step(Fault::NotParked), 12, "no open call"),
+    (Bad::Step(Fault::InUse), 16, "the port is in use"),
+    (Bad::Step(Fault::NotGone), 17, "the process has not exited"),
     (Bad::Line(Kind::BadHeader), 1, "bad header"),
     (Bad::Line(Kind::BadProcs), 2, "bad procs"),
     (Bad::Line(Kind::BadStep), 3, "bad step"),

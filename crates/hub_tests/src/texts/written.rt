@@ -120,6 +120,8 @@ const LINES: &[(u8, Told, &str)] = &[
     (50, Told::Fault(Fault::NoProcess), "50 fault 1\n"),
     (60, Told::Fault(Fault::NoMemory), "60 fault 11\n"),
     (70, Told::Fault(Fault::NotParked), "70 fault 12\n"),
+    (71, Told::Fault(Fault::InUse), "71 fault 16\n"),
+    (72, Told::Fault(Fault::NotGone), "72 fault 17\n"),
     (80, Told::Cancelled, "80 cancelled\n"),
 ];
 

@@ -1,9 +1,14 @@
-use Rattle.std.proofs.Common.{refl, arith}
+use Rattle.std.proofs.Common.{◌≡◌, ◌∙◌, List, arith, refl, subst, sym, true}
+use Rattle.std.proofs.lemmas.Bool.{and_parts}
+use Rattle.std.proofs.lemmas.List.Folds.{list_all-append}
+use Rattle.std.specs.List.{list_all}
 use Rattle.std.proofs.lemmas.Option.{slice_get_read}
-use Rattle.hub_base.specs.Head.{head_of}
+use Rattle.hub_base.specs.Entry.{Entry}
+use Rattle.hub_base.specs.Head.{head_of, is_of}
+use Rattle.hub_base.specs.Runs.{state}
 use Rattle.hub_core.specs.HubView.{terms_of}
 use Rattle.hub_laws.proofs.Once.{once-law}
-use Rattle.hub_laws.proofs.AfterClose.{after_close-law}
+use Rattle.hub_laws.proofs.AfterClose.{after_close-law, never-opened}
 use Rattle.hub_core.proofs.Journeys.{so_far, run_on, next_fits, refuses_at, run_whole, never_full, values_kept}
 use Rattle.hub_core.proofs.runs.run.Goals as goal
 
@@ -45,6 +50,13 @@ returns-clause-at_most_one_case c = once-law (head_of c.args.edition c.args.proc
 
 pub returns-clause-after_close : goal.returns-clause-after_close
 returns-clause-after_close c = λ before pid port later is. after_close-law (head_of c.args.edition c.args.procs) before later pid port
+
+pub returns-clause-never : goal.returns-clause-never
+returns-clause-never c = λ old before later port is.
+    let rest = and_parts (list_all (λ e. is_of c.args.edition e.step) before) (list_all (λ e. is_of c.args.edition e.step) later)
+    (sym (list_all-append (λ e. is_of c.args.edition e.step) before later)
+    ∙ subst (λ (es : List Entry). list_all (λ e. is_of c.args.edition e.step) es ≡ true) is c.requires.fits) in
+    never-opened c.args.edition port (state (head_of c.args.edition c.args.procs) before) later old rest.1
 
 pub returns-clause-never_full : goal.returns-clause-never_full
 returns-clause-never_full c =

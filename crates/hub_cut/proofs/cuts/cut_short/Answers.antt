@@ -1,6 +1,8 @@
 use Rattle.std.proofs.Common.{◌∙◌, ap, sym, subst}
-use Rattle.hub_core.specs.HubView.{ShortInMemory}
+use Rattle.hub_core.specs.HubView.{HubView, ShortInMemory, state_of}
+use Rattle.hub_cut.specs.ChapterText.{FitLines}
 use Rattle.hub_cut.specs.Cut.{IsCut}
+use Rattle.hub_cut.proofs.ChapterTexts.{checkpoint_lines_fit}
 use Rattle.hub_cut.proofs.Parts.{cut_law}
 use Rattle.hub_cut.proofs.cuts.cut_short.Goals as goal
 
@@ -9,3 +11,11 @@ returns-clause-goes_on c =
     let hub = c.args.hub.now.memory.hub in
     let same = ap (λ (x : ShortInMemory). x.memory.hub) c.replace.ensures.after ∙ c.in_ok-next.ensures.hub in
     subst (IsCut hub) (sym same) (cut_law hub)
+
+pub returns-clause-lines : goal.returns-clause-lines
+returns-clause-lines c =
+    let hub = c.args.hub.now.memory.hub in
+    let same = ap (λ (x : ShortInMemory). x.memory.hub.journal) c.replace.ensures.after in
+    let next = ap (λ (h : HubView). h.journal) c.in_ok-next.ensures.hub in
+    subst (λ es. FitLines es 0) (sym (same ∙ next))
+    (checkpoint_lines_fit (state_of hub) c.in_ok-next.ensures.lines)

@@ -1,13 +1,12 @@
-use Rattle.std.proofs.Common.{◌∙◌, ap, sym, subst, arith, length}
-use Rattle.std.specs.List.{flat_map}
+use Rattle.std.proofs.Common.{◌∙◌, ap, sym, subst}
 use Rattle.hub_base.specs.Head.{is_of}
-use Rattle.hub_base.specs.Lines.{line}
 use Rattle.hub_core.specs.HubView.{HubView, state_of}
 use Rattle.hub_chapters.specs.Checkpoint.{checkpoint}
 use Rattle.hub_cut.specs.Cut.{IsCut}
 use Rattle.hub_cut.proofs.Parts.{cut_law}
 use Rattle.hub_cut.proofs.Cutting.{few_behind, steps_behind, admitted_behind}
-use Rattle.hub_cut.proofs.ChapterTexts.{longer_by}
+use Rattle.hub_cut.specs.ChapterText.{FitLines, most_line}
+use Rattle.hub_cut.proofs.ChapterTexts.{checkpoint_lines_fit, counts_behind}
 use Rattle.hub_cut.proofs.cuts.renewed_after.Goals as goal
 
 pub step_admitted_heard-requires : goal.step_admitted_heard-requires
@@ -38,9 +37,6 @@ returns-clause-lines g c =
     let cut = subst (IsCut old) (sym c.in_ok-next.ensures.hub) (cut_law old) in
     let next = c.in_ok-step_admitted_heard.ensures.ok in
     let steps = steps_behind old c.in_ok-next.next.memory.hub c.step_admitted_heard.new.hub.memory.hub c.args.entry.now next.told cut next.steps in
-    omega (
-      arith,
-      ap (λ j. length (flat_map line j)) steps.journal,
-      longer_by (checkpoint (state_of old)) c.args.entry.now old.terms.head.edition c.requires.fits,
-      c.in_ok-next.ensures.lines,
-    )
+    subst (λ es. FitLines es (most_line c.args.entry.now)) (sym steps.journal)
+    (counts_behind (checkpoint (state_of old)) c.args.entry.now old.terms.head.edition c.requires.fits
+    (checkpoint_lines_fit (state_of old) c.in_ok-next.ensures.lines))

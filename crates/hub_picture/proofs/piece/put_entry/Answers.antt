@@ -1,5 +1,5 @@
-use Rattle.hub_story.proofs.Editions.{two-has}
+use Rattle.hub_story.proofs.Editions.{three-has}
 use Rattle.hub_picture.proofs.piece.put_entry.Goals as goal
 
 pub write_entry-requires : goal.write_entry-requires
-write_entry-requires c = record { fits = two-has c.by_slice.result.step }
+write_entry-requires c = record { fits = three-has c.by_slice.result.step }

@@ -1,12 +1,12 @@
 use Rattle.std.proofs.Common.{◌∙◌, ap, sym, ◌++◌, [], ◌∷◌, append_assoc, arith}
 use Rattle.hub_base.specs.Lines.{line}
-use Rattle.hub_story.proofs.Editions.{two-has}
+use Rattle.hub_story.proofs.Editions.{three-has}
 use Rattle.hub_story_text.specs.LineText.{asks}
 use Rattle.hub_story_text.proofs.StepLines.{without-newline}
 use Rattle.hub_story_text.proofs.lines.put_asks.Goals as goal
 
 pub write_entry-requires : goal.write_entry-requires
-write_entry-requires c = record { fits = two-has c.args.entry.now.step }
+write_entry-requires c = record { fits = three-has c.args.entry.now.step }
 
 pub returns : goal.returns
 returns c =

@@ -26,6 +26,12 @@ returns-in-Exit c =
     subst (λ text. Appends c.args.out.now c.put.new.out text c.put.result)
     (ap (λ s. spaced (step_fields s)) (sym c.in-Exit.is)) c.put.ensures.appends
 
+pub returns-in-Start : goal.returns-in-Start
+returns-in-Start c =
+    subst (λ text. Appends c.args.out.now c.put_before_number-in-Start.new.out text c.put_before_number-in-Start.result)
+    (ap (λ t. codes " start " ++ t) (ap decimal c.into-in-Start.ensures ∙ sym (append-nil (decimal c.in-Start.pid.0)))
+    ∙ ap (λ s. spaced (step_fields s)) (sym c.in-Start.is)) c.put_before_number-in-Start.ensures
+
 pub returns-in-Cancel : goal.returns-in-Cancel
 returns-in-Cancel c =
     subst (λ text. Appends c.args.out.now c.put_before_number-in-Cancel.new.out text c.put_before_number-in-Cancel.result)

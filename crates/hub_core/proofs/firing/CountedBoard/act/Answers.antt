@@ -2,18 +2,24 @@ use Rattle.std.proofs.Common.{◌≡◌, ◌∙◌, ap, arith, length, refl, sub
 use Rattle.std.proofs.lemmas.Result.{on_err_weaker}
 use Rattle.arrayvec.specs.ArrayVec.{ArrayVec}
 use Rattle.hub_base.specs.declared.case.Case.{Case}
-use Rattle.hub_base.specs.declared.entry.Step.TheVariants.{Make, Close, Cancel}
+use Rattle.hub_base.specs.declared.entry.Step.TheVariants.{Make, Close, Cancel, Start, Reopen}
 use Rattle.hub_parts.specs.Keeps.{AllMade}
 use Rattle.hub_core.specs.ListSteps.{call_fault_on}
 use Rattle.hub_core.specs.Records.{machine_of}
-use Rattle.hub_core.proofs.Acting.{both_ok, fine_cancel, fine_close, fine_make, machine_as, makes_or_not, takes_effect, tells_fault}
-use Rattle.hub_core.proofs.Counting.{count-exit, count-le-procs}
-use Rattle.hub_core.proofs.Reached.{call_named, calls_apart, ports_keep, room_left}
+use Rattle.std.proofs.Common.{List, Bool, [], ◌∷◌}
+use Rattle.hub_base.specs.declared.event.Event.{Event}
+use Rattle.hub_core.proofs.Hearing.{heard_as}
+use Rattle.hub_core.proofs.Effects.{gone-within}
+use Rattle.hub_core.proofs.Acting.{both_ok, fine_cancel, fine_close, fine_make, fine_reopen, fine_start, machine_as, makes_or_not, takes_effect}
+use Rattle.hub_core.proofs.Acting.{tells_fault}
+use Rattle.hub_core.proofs.Counting.{count-exit, count-le-procs, count-start}
+use Rattle.hub_core.proofs.Reached.{call_named, calls_apart, gone_here, ports_keep, room_left}
 use Rattle.hub_core.proofs.firing.CountedBoard.act.Goals as goal
 
 pub make-requires-clause-few : goal.make-requires-clause-few
 make-requires-clause-few g c =
-    fine_make c.args.edition c.args.self.now.board c.in-Make.cap (sym (c.make_fault.ensures c.args.edition) ∙ c.in-None.is)
+    fine_make c.args.edition c.args.self.now.board c.args.exited.now.gone c.in-Make.cap
+    (sym (c.make_fault.ensures c.args.edition c.args.exited.now.gone) ∙ c.in-None.is)
 
 pub make-requires-clause-counts : goal.make-requires-clause-counts
 make-requires-clause-counts g c = (ports_keep _ c.requires.may.reached c.requires.may.steps).count
@@ -21,7 +27,8 @@ make-requires-clause-counts g c = (ports_keep _ c.requires.may.reached c.require
 pub returns-in-None-clause-acts : goal.returns-in-None-clause-acts
 returns-in-None-clause-acts g c =
     let gone = c.args.exited.now.gone in
-    rw c.in-Make.is (makes_or_not (Make c.in-Make.cap) c.make.result tt (sym (c.make_fault.ensures c.args.edition) ∙ c.in-None.is)
+    rw c.in-Make.is (makes_or_not (Make c.in-Make.cap) c.make.result tt
+    (sym (c.make_fault.ensures c.args.edition c.args.exited.now.gone) ∙ c.in-None.is)
     (both_ok c.make.result (machine_as c.args.edition gone c.args.ticket) c.make.ensures.board c.make.ensures.counts)
     c.make.ensures.told
     (on_err_weaker c.make.result (λ same. ap (λ b. machine_of c.args.edition b.board b.tallies gone c.args.ticket) same) c.make.ensures.unchanged)
@@ -29,7 +36,8 @@ returns-in-None-clause-acts g c =
 
 pub returns-in-Some-clause-acts : goal.returns-in-Some-clause-acts
 returns-in-Some-clause-acts g c =
-    rw c.in-Make.is (tells_fault (Make c.in-Make.cap) c.in-Some.fault (sym (c.make_fault.ensures c.args.edition) ∙ c.in-Some.is) c.tell_fault.ensures)
+    rw c.in-Make.is (tells_fault (Make c.in-Make.cap) c.in-Some.fault
+    (sym (c.make_fault.ensures c.args.edition c.args.exited.now.gone) ∙ c.in-Some.is) c.tell_fault.ensures)
 
 pub call-requires-clause-named : goal.call-requires-clause-named
 call-requires-clause-named g c =
@@ -45,7 +53,8 @@ call-requires-clause-keep g c = ports_keep _ c.requires.may.reached c.requires.m
 
 pub close-requires-clause-made : goal.close-requires-clause-made
 close-requires-clause-made g c =
-    fine_close c.args.edition c.args.self.now.board c.in-Close.port (sym (c.close_fault.ensures c.args.edition) ∙ c.in-None-close_fault.is)
+    fine_close c.args.edition c.args.self.now.board c.args.exited.now.gone c.in-Close.port
+    (sym (c.close_fault.ensures c.args.edition c.args.exited.now.gone) ∙ c.in-None-close_fault.is)
 
 pub close-requires-clause-apart : goal.close-requires-clause-apart
 close-requires-clause-apart g c = calls_apart _ c.requires.may.reached
@@ -56,13 +65,14 @@ close-requires-clause-room g c =
 
 pub returns-in-None-close_fault-clause-acts : goal.returns-in-None-close_fault-clause-acts
 returns-in-None-close_fault-clause-acts g c =
-    rw c.in-Close.is (takes_effect (Close c.in-Close.port) (sym (c.close_fault.ensures c.args.edition) ∙ c.in-None-close_fault.is)
+    rw c.in-Close.is (takes_effect (Close c.in-Close.port)
+    (sym (c.close_fault.ensures c.args.edition c.args.exited.now.gone) ∙ c.in-None-close_fault.is)
     (machine_as c.args.edition c.args.exited.now.gone c.args.ticket c.close.ensures.board refl) c.close.ensures.told)
 
 pub returns-in-Some-close_fault-clause-acts : goal.returns-in-Some-close_fault-clause-acts
 returns-in-Some-close_fault-clause-acts g c =
     rw c.in-Close.is (tells_fault (Close c.in-Close.port) c.in-Some-close_fault.fault
-    (sym (c.close_fault.ensures c.args.edition) ∙ c.in-Some-close_fault.is) c.tell_fault-in-Some-close_fault.ensures)
+    (sym (c.close_fault.ensures c.args.edition c.args.exited.now.gone) ∙ c.in-Some-close_fault.is) c.tell_fault-in-Some-close_fault.ensures)
 
 pub add-requires-clause-few : goal.add-requires-clause-few
 add-requires-clause-few g c = omega (arith, c.requires.count, c.requires.few, count-le-procs c.args.exited.now.gone c.args.self.now.board.procs)
@@ -75,14 +85,74 @@ returns-in-Exit-clause-count g c =
 
 pub cancel-requires-clause-open : goal.cancel-requires-clause-open
 cancel-requires-clause-open g c =
-    fine_cancel c.args.edition c.args.self.now.board c.in-Cancel.other (sym (c.cancel_fault.ensures c.args.edition) ∙ c.in-None-cancel_fault.is)
+    fine_cancel c.args.edition c.args.self.now.board c.args.exited.now.gone c.in-Cancel.other
+    (sym (c.cancel_fault.ensures c.args.edition c.args.exited.now.gone) ∙ c.in-None-cancel_fault.is)
 
 pub returns-in-None-cancel_fault-clause-acts : goal.returns-in-None-cancel_fault-clause-acts
 returns-in-None-cancel_fault-clause-acts g c =
-    rw c.in-Cancel.is (takes_effect (Cancel c.in-Cancel.other) (sym (c.cancel_fault.ensures c.args.edition) ∙ c.in-None-cancel_fault.is)
+    rw c.in-Cancel.is (takes_effect (Cancel c.in-Cancel.other)
+    (sym (c.cancel_fault.ensures c.args.edition c.args.exited.now.gone) ∙ c.in-None-cancel_fault.is)
     (machine_as c.args.edition c.args.exited.now.gone c.args.ticket c.cancel.ensures.board c.cancel.ensures.counts) c.cancel.ensures.told)
 
 pub returns-in-Some-cancel_fault-clause-acts : goal.returns-in-Some-cancel_fault-clause-acts
 returns-in-Some-cancel_fault-clause-acts g c =
     rw c.in-Cancel.is (tells_fault (Cancel c.in-Cancel.other) c.in-Some-cancel_fault.fault
-    (sym (c.cancel_fault.ensures c.args.edition) ∙ c.in-Some-cancel_fault.is) c.tell_fault-in-Some-cancel_fault.ensures)
+    (sym (c.cancel_fault.ensures c.args.edition c.args.exited.now.gone) ∙ c.in-Some-cancel_fault.is) c.tell_fault-in-Some-cancel_fault.ensures)
+
+pub remove-requires-clause-below : goal.remove-requires-clause-below
+remove-requires-clause-below g c =
+    let some = fine_start c.args.edition c.args.self.now.board c.args.exited.now.gone c.in-Start.other
+    (sym (c.start_fault.ensures c.args.edition c.args.self.now.board) ∙ c.in-None-start_fault.is) in
+    omega (arith, gone-within c.args.exited.now.gone c.in-Start.other.0 some)
+
+pub remove-requires-clause-some : goal.remove-requires-clause-some
+remove-requires-clause-some g c =
+    let some = fine_start c.args.edition c.args.self.now.board c.args.exited.now.gone c.in-Start.other
+    (sym (c.start_fault.ensures c.args.edition c.args.self.now.board) ∙ c.in-None-start_fault.is) in
+    let below = gone_here _ c.in-Start.other.0 c.requires.may.reached some in
+    omega (arith, count-start c.args.exited.now.gone c.in-Start.other.0 c.args.exited.now.count c.args.self.now.board.procs c.requires.count some below)
+
+pub returns-in-None-start_fault-clause-count : goal.returns-in-None-start_fault-clause-count
+returns-in-None-start_fault-clause-count g c =
+    let some = fine_start c.args.edition c.args.self.now.board c.args.exited.now.gone c.in-Start.other
+    (sym (c.start_fault.ensures c.args.edition c.args.self.now.board) ∙ c.in-None-start_fault.is) in
+    let below = gone_here _ c.in-Start.other.0 c.requires.may.reached some in
+    rw c.remove.ensures.gone
+    (omega (
+      arith,
+      c.remove.ensures.count,
+      count-start c.args.exited.now.gone c.in-Start.other.0 c.args.exited.now.count c.args.self.now.board.procs c.requires.count some below,
+    ))
+
+pub returns-in-None-start_fault-clause-acts : goal.returns-in-None-start_fault-clause-acts
+returns-in-None-start_fault-clause-acts g c =
+    rw c.in-Start.is (takes_effect (Start c.in-Start.other)
+    (sym (c.start_fault.ensures c.args.edition c.args.self.now.board) ∙ c.in-None-start_fault.is)
+    (ap (λ (gone : List Bool). machine_of c.args.edition c.args.self.now.board c.args.self.now.tallies gone c.args.ticket) c.remove.ensures.gone)
+    (heard_as (record { events = c.hear-in-None-start_fault.ensures.heard; fits = c.hear-in-None-start_fault.ensures.room })
+    (ap (λ (e : Event). e ∷ []) c.tells-in-None-start_fault.ensures)))
+
+pub returns-in-Some-start_fault-clause-acts : goal.returns-in-Some-start_fault-clause-acts
+returns-in-Some-start_fault-clause-acts g c =
+    rw c.in-Start.is (tells_fault (Start c.in-Start.other) c.in-Some-start_fault.fault
+    (sym (c.start_fault.ensures c.args.edition c.args.self.now.board) ∙ c.in-Some-start_fault.is) c.tell_fault-in-Some-start_fault.ensures)
+
+pub reopen-requires-clause-made : goal.reopen-requires-clause-made
+reopen-requires-clause-made g c =
+    fine_reopen c.args.edition c.args.self.now.board c.args.exited.now.gone c.in-Reopen.port c.in-Reopen.cap
+    (sym (c.reopen_fault.ensures c.args.edition c.args.exited.now.gone) ∙ c.in-None-reopen_fault.is)
+
+pub returns-in-None-reopen_fault-clause-acts : goal.returns-in-None-reopen_fault-clause-acts
+returns-in-None-reopen_fault-clause-acts g c =
+    let gone = c.args.exited.now.gone in
+    rw c.in-Reopen.is (makes_or_not (Reopen c.in-Reopen.port c.in-Reopen.cap) c.reopen.result tt
+    (sym (c.reopen_fault.ensures c.args.edition c.args.exited.now.gone) ∙ c.in-None-reopen_fault.is)
+    (both_ok c.reopen.result (machine_as c.args.edition gone c.args.ticket) c.reopen.ensures.board c.reopen.ensures.counts)
+    c.reopen.ensures.told
+    (on_err_weaker c.reopen.result (λ same. ap (λ b. machine_of c.args.edition b.board b.tallies gone c.args.ticket) same) c.reopen.ensures.unchanged)
+    c.reopen.ensures.silent)
+
+pub returns-in-Some-reopen_fault-clause-acts : goal.returns-in-Some-reopen_fault-clause-acts
+returns-in-Some-reopen_fault-clause-acts g c =
+    rw c.in-Reopen.is (tells_fault (Reopen c.in-Reopen.port c.in-Reopen.cap) c.in-Some-reopen_fault.fault
+    (sym (c.reopen_fault.ensures c.args.edition c.args.exited.now.gone) ∙ c.in-Some-reopen_fault.is) c.tell_fault-in-Some-reopen_fault.ensures)

@@ -1,7 +1,6 @@
 use Rattle.std.proofs.Common.{◌≡◌, true, ◌+◌, ◌∙◌, ap, sym, subst, arith, Some, [], ◌∷◌, slice_index}
 use Rattle.std.proofs.lemmas.Result.{err_from_is_err_and}
 use Rattle.hub_core.specs.HubView.{ShortInMemory, state_of}
-use Rattle.hub_core.proofs.Reached.{steps-length}
 use Rattle.hub_chapters.specs.Carried.{received_count}
 use Rattle.hub_chapters.specs.Chapters.Chapters.{Cut}
 use Rattle.hub_cut.specs.Totals.{in_64_bits}
@@ -41,12 +40,7 @@ invariant_of-self-2 g c =
             (λ p few. c.add_received.ensures p.0 (omega (arith, c.self.told, few))
             ∙ ap (λ (h : ShortInMemory). in_64_bits (slice_index old.bases p.0 + received_count (state_of h.memory.hub) p)) whole)),
       );
-      lines = omega (
-        arith,
-        c.in_ok-whole.ensures.lines,
-        c.most_line-bytes.ensures.most,
-        steps-length c.cut_and_step.new.hub.memory.hub.journal,
-      );
+      lines = rw c.most_line-bytes.ensures.most c.in_ok-whole.ensures.lines;
       bytes = omega (arith, c.most_line-bytes.ensures.few);
       text_before = rw handed (text_fits old.hub old.bytes c.self.invariant.head (recorder_legal old c.self.invariant.recorder)
           c.self.invariant.lines c.self.invariant.bytes);

@@ -13,4 +13,4 @@ returns-clause-texts c =
     )
 
 pub returns-clause-short : goal.returns-clause-short
-returns-clause-short c = rw (← c.self.view_is) (recorder_short (shown c.self.inside) c.self.invariant.recorder)
+returns-clause-short c = rw (← c.self.view_is) (recorder_short (shown c.self.inside) c.self.invariant.recorder c.journal_is_legal.ensures.fits)

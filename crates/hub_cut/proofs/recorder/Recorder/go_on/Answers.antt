@@ -1,6 +1,10 @@
 use Rattle.std.proofs.Common.{◌≡◌, ◌∙◌, ◌+◌, ap, sym, subst, false, true}
 use Rattle.std.proofs.lemmas.Result.{err_from_is_err_and}
-use Rattle.hub_cut.specs.Recorder.{RecorderView, begins}
+use Rattle.hub_base.specs.declared.head.Edition.{Edition}
+use Rattle.hub_base.specs.declared.head.Head.{Head}
+use Rattle.hub_base.specs.Head.{is_of}
+use Rattle.hub_core.specs.HubView.{HubView}
+use Rattle.hub_cut.specs.Recorder.{RecorderView, begins, head_of_all}
 use Rattle.hub_cut.specs.RecorderKeeps.{shown}
 use Rattle.hub_cut.proofs.Recording.{few_counted, goes_next, keeps_next, none_counts, one_counts, refuses_next}
 use Rattle.hub_cut.proofs.recorder.Recorder.go_on.Goals as goal
@@ -14,6 +18,14 @@ returns-in_err-step_heard-clause-refused g c =
     rw (p.1, p.2, ← c.self.view_is)
     (refuses_next old e c.in_err-step_heard.field-0.0 c.self.invariant.head c.self.invariant.limit c.self.invariant.keep
     room c.in_err-step_heard.ensures.rules.refused)
+
+pub most_line-bytes-requires : goal.most_line-bytes-requires
+most_line-bytes-requires g c =
+    let e = c.args.entry.now in
+    let fits : is_of (head_of_all (shown c.self.inside)).edition e.step ≡ true =
+    subst (λ (r : RecorderView). is_of (head_of_all r).edition e.step ≡ true) (sym c.self.view_is) c.requires.fits in
+    let head = ap (λ (h : HubView). h.terms.head.edition) c.in_ok-step_heard.ensures.ok.steps.journal in
+    record { fits = subst (λ (ed : Edition). is_of ed e.step ≡ true) (sym (ap (λ (h : Head). h.edition) c.head.ensures.value ∙ head)) fits }
 
 pub invariant_of-self-then-not-is_exit : goal.invariant_of-self-then-not-is_exit
 invariant_of-self-then-not-is_exit g c =

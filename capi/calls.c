@@ -70,13 +70,36 @@ chanhub_told chanhub_close(chanhub *h, unsigned pid, unsigned port) {
     CALL(is_bad(h, pid, port), (int)port, hub_c_close(&h->hub, (uint8_t)pid, (uint16_t)port, &t), show_port(h, port), FOR_EVER);
 }
 
+/* Notes an exit. What is left of the call is nobody's: the process may be started again before it returns. */
+static inline void note_exit(chanhub *h, unsigned *pid, const struct told *t) {
+    if (t->it.what != CHANHUB_DONE) return;
+    h->exits++;
+    h->exited++;
+    *pid = NOBODY;
+}
+
 chanhub_told chanhub_exit(chanhub *h, unsigned pid) {
-    CALL(is_bad(h, pid, 0), EXIT, hub_c_exit(&h->hub, (uint8_t)pid, &t), h->exits += t.it.what == CHANHUB_DONE, FOR_EVER);
+    CALL(is_bad(h, pid, 0), EXIT, hub_c_exit(&h->hub, (uint8_t)pid, &t), note_exit(h, &pid, &t), FOR_EVER);
+}
+
+/* Whether this is the clock, which only the library cancels, and nobody starts. */
+static inline bool is_clock(const chanhub *h, unsigned pid) {
+    return h && pid == h->clock && pid != NOBODY;
 }
 
 chanhub_told chanhub_cancel(chanhub *h, unsigned pid, unsigned other) {
-    if (!is_bad(h, pid, 0) && other == h->clock && other != NOBODY) return fault(CHANHUB_NO_PROCESS);
+    if (is_clock(h, other) && pid <= GREATEST_PID) return fault(CHANHUB_NO_PROCESS);
     CALL(is_bad(h, pid, 0) || other > GREATEST_PID, ANY_STEP, hub_c_cancel(&h->hub, (uint8_t)pid, (uint8_t)other, &t), (void)0, FOR_EVER);
+}
+
+chanhub_told chanhub_start(chanhub *h, unsigned pid, unsigned other) {
+    if (is_clock(h, other) && pid <= GREATEST_PID) return fault(CHANHUB_NO_PROCESS);
+    CALL(is_bad(h, pid, 0) || other > GREATEST_PID, ANY_STEP, hub_c_start(&h->hub, (uint8_t)pid, (uint8_t)other, &t),
+         h->exited -= t.it.what == CHANHUB_DONE, FOR_EVER);
+}
+
+chanhub_told chanhub_reopen(chanhub *h, unsigned pid, unsigned port, uint32_t cap) {
+    CALL(is_bad(h, pid, port), ANY_STEP, hub_c_reopen(&h->hub, (uint8_t)pid, (uint16_t)port, cap, &t), show_port(h, port), FOR_EVER);
 }
 
 /* A select that stays open in the hub once it has waited for so long. */

@@ -72,10 +72,12 @@ struct chanhub {
         BadCall = CHANHUB_BAD_CALL,
         Diverged = CHANHUB_DIVERGED,
         NotYet = CHANHUB_NOT_YET,
+        InUse = CHANHUB_IN_USE,
+        NotGone = CHANHUB_NOT_GONE,
     };
 
-    // Edition 1 has only numbers as values, 8 cases in a select, and no cancel.
-    enum class Edition : std::uint8_t { One = 1, Two = 2 };
+    // Edition 1 has only numbers as values, 8 cases in a select, and no cancel. Only edition 3 has start and reopen.
+    enum class Edition : std::uint8_t { One = 1, Two = 2, Three = 3 };
 
     // The number of a port. Port{} is port 0, whose cases never proceed.
     enum class Port : std::uint16_t {};
@@ -107,7 +109,7 @@ inline std::optional<std::string> chanhub::text_by(char *(*call)(chanhub *, std:
     return std::string(text.get(), length);
 }
 
-// What a channel carries: a number or, in edition 2, 0 to 32 bytes.
+// What a channel carries: a number or, from edition 2 on, 0 to 32 bytes.
 class chanhub::Value {
 public:
     Value() noexcept : Value(0) {}
@@ -234,8 +236,15 @@ public:
 
     void close(Port port) const { wanted(close_told(port), Outcome::Done); }
 
+    // Opens a port again that is closed and empty. Requires edition 3.
+    void reopen(Port port, std::uint32_t cap) const { wanted(reopen_told(port, cap), Outcome::Done); }
+
     // Ends the process. A seat does not do so by itself; ExitAtEnd does.
     void exit() const { wanted(exit_told(), Outcome::Done); }
+
+    // Starts the process `other` again, which has exited. Its seats can call again, those from before and those that Hub::seat returns.
+    // Requires edition 3.
+    void start(unsigned other) const { wanted(start_told(other), Outcome::Done); }
 
     // Whether the process `other` had a waiting call. It is cancelled then.
     [[nodiscard]] bool cancel(unsigned other) const {
@@ -253,7 +262,11 @@ public:
     }
     [[nodiscard]] Told recv_told(Port port) const noexcept { return Told(chanhub_recv(hub_, pid_, static_cast<unsigned>(port))); }
     [[nodiscard]] Told close_told(Port port) const noexcept { return Told(chanhub_close(hub_, pid_, static_cast<unsigned>(port))); }
+    [[nodiscard]] Told reopen_told(Port port, std::uint32_t cap) const noexcept {
+        return Told(chanhub_reopen(hub_, pid_, static_cast<unsigned>(port), cap));
+    }
     [[nodiscard]] Told exit_told() const noexcept { return Told(chanhub_exit(hub_, pid_)); }
+    [[nodiscard]] Told start_told(unsigned other) const noexcept { return Told(chanhub_start(hub_, pid_, other)); }
     [[nodiscard]] Told cancel_told(unsigned other) const noexcept { return Told(chanhub_cancel(hub_, pid_, other)); }
 
     // They never wait: the outcome is Default instead.

@@ -54,8 +54,8 @@ void cancel_by_clock(chanhub *h, unsigned pid, struct told *t) {
 
 /* The clock waits; or it exits, if no other process is left, or no step. */
 static void step_clock_freely(chanhub *h, struct told *t) {
-    if (h->exits < h->clock) park_clock(h, t);
-    if (h->exits == h->clock || t->it.fault == CHANHUB_JOURNAL_FULL) exit_clock(h, t);
+    if (h->exited < h->clock) park_clock(h, t);
+    if (h->exited == h->clock || t->it.fault == CHANHUB_JOURNAL_FULL) exit_clock(h, t);
 }
 
 /* Makes the step that is next in the journal that the hub follows: the clock's, or a close for ends that are gone. */

@@ -102,12 +102,6 @@ struct place {
     uint8_t sleeps;             /* how many times it sleeps at once before it looks again */
 };
 
-/* What looks at one port see without the lock. */
-struct shown {
-    atomic_uint_least64_t counts; /* 0 where a look has to take the lock */
-    uint32_t cap;                 /* written before the counts are first shown, and then only read */
-};
-
 /* What the watch over hubs knows of this one. */
 struct watch {
     chanhub *next;    /* the one that was opened next */
@@ -130,7 +124,8 @@ struct chanhub {
     enum clock clock_is;
     atomic_uint sleepers;       /* how many threads sleep for the lock */
     uint32_t limit;             /* the most steps that are no exits; 0 where the hub never ends */
-    uint32_t exits;             /* how many processes have exited */
+    uint32_t exited;            /* how many processes other than the clock have exited, and were not started again */
+    uint64_t exits;             /* how many exits were made */
     uint64_t looked;            /* the ports whose counts are shown */
     enum state state;
     bool goes_on;               /* whether it is free when it has diverged from the journal */
@@ -147,7 +142,7 @@ struct chanhub {
     void *pointer;              /* what it gets with them */
     pthread_cond_t handed;      /* a chapter was taken, or was handed out */
     struct place places[MOST_PROCS];
-    struct shown shown[MOST_PORTS]; /* from port 1 on */
+    atomic_uint_least64_t shown[MOST_PORTS]; /* the counts of each port, from 1 on, that a look without the lock sees; else 0 */
     struct watch watch;
     struct hub hub;
 };

@@ -67,6 +67,8 @@ void hub_c_call(struct hub *hub, uint8_t pid, const chanhub_case *cases, size_t 
 void hub_c_close(struct hub *hub, uint8_t pid, uint16_t port, struct told *told);
 void hub_c_exit(struct hub *hub, uint8_t pid, struct told *told);
 void hub_c_cancel(struct hub *hub, uint8_t pid, uint8_t other, struct told *told);
+void hub_c_start(struct hub *hub, uint8_t pid, uint8_t other, struct told *told);
+void hub_c_reopen(struct hub *hub, uint8_t pid, uint16_t port, uint32_t cap, struct told *told);
 void hub_c_take(struct hub *hub, uint8_t pid, struct told *told);
 uint64_t hub_c_next(struct hub *hub); /* the process whose step is next, as a set */
 struct next hub_c_step_of(struct hub *hub, uint8_t pid);

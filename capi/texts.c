@@ -20,7 +20,7 @@ const char *chanhub_strerror(int error) {
         "the number of processes must be between 1 and 64, or 63 with a clock",
         "the step limit must be between 1 and 1,000,000, or the number of steps to keep between 1 and 900,000",
         "out of memory",
-        "the edition must be 1 or 2, and 2 with a clock",
+        "the edition must be 1, 2 or 3, and 2 or 3 with a clock",
         "the journal to follow is malformed",
         "the journal to follow has a step that no hub admits there",
         "a hub that follows a journal has no limit and no chapters, and a clock only if the journal has one",
@@ -43,9 +43,11 @@ const char *chanhub_strfault(int fault) {
         [CHANHUB_JOURNAL_FULL] = "the hub has reached its step limit",
         [CHANHUB_NO_MEMORY] = "out of memory",
         [CHANHUB_NOT_PARKED] = "the process has no waiting call",
-        [CHANHUB_BAD_CALL] = "no hub, a number out of range, more than 16 cases or 32 bytes, or a call that needs edition 2 or a clock",
+        [CHANHUB_BAD_CALL] = "no hub, a number out of range, more than 16 cases or 32 bytes, or a call that needs another edition or a clock",
         [CHANHUB_DIVERGED] = "the journal that the hub follows has another step here",
         [CHANHUB_NOT_YET] = "other steps come first in the journal that the hub follows",
+        [CHANHUB_IN_USE] = "the port is in use",
+        [CHANHUB_NOT_GONE] = "the process has not exited",
     };
     return text_at(texts, sizeof texts / sizeof *texts, fault);
 }

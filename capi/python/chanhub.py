@@ -46,7 +46,8 @@ If a hub is opened with `timeouts=True`, calls take a timeout in seconds:
 While a call with a timeout waits, no deadlock is reported, since something can still happen.
 
 Limits: a hub has at most 64 processes (63 with timeouts) and 64 ports, and a closed port still counts. A hub makes at most 1,000,000
-steps, not counting exits, and keeps them all. That suits tests and finite runs.
+steps, not counting exits, and keeps them all. That suits tests and finite runs. In a hub of edition 3, `seat.start` brings back a process
+that has exited, and `seat.reopen` a closed port.
 
 A hub that is opened with `keep` never ends. It keeps its last steps, and cuts its journal into chapters, each of which is a journal of
 its own. Older chapters go, or are written to files, or are given to a function:
@@ -96,18 +97,19 @@ Chapters = Union[Callable[[Optional[bytes]], object], str, bytes, 'os.PathLike[A
 
 MADE, SENT, GOT, DRAINED, CLOSED, DEFAULT, DONE, WAITING, STALLED, FAULT, CANCELLED, TIMED_OUT = range(1, 13)
 
-GONE, BUSY, NOT_PARKED, DIVERGED, NOT_YET = 2, 3, 12, 14, 15
+GONE, BUSY, NOT_PARKED, DIVERGED, NOT_YET, IN_USE, NOT_GONE = 2, 3, 12, 14, 15, 16, 17
 FAULTS = {
     1: 'no such process', 2: 'the process has exited', 3: 'a call of the process is still open', 4: 'more than 8 cases in edition 1',
     5: 'no such port', 6: 'the capacity is above 1,024', 7: 'the hub already has 64 ports', 8: 'close of port 0',
     9: 'close of a closed port', 10: 'the hub has reached its step limit', 11: 'out of memory', 12: 'the process has no waiting call',
-    13: 'more than 16 cases, or a call that needs edition 2', 14: 'the journal that the hub follows has another step here',
+    13: 'more than 16 cases, or a call that needs another edition', 14: 'the journal that the hub follows has another step here',
+    16: 'the port is in use', 17: 'the process has not exited',
 }
 OPENING = {1: 'the number of processes must be between 1 and 64', 2: 'the step limit must be between 1 and 1,000,000',
-           4: 'the edition must be 1 or 2'}
+           4: 'the edition must be 1, 2 or 3'}
 OPENING_ENDLESS = {**OPENING, 2: 'the number of steps to keep must be between 1 and 900,000'}
 OPENING_FOLLOWING = {5: 'the journal is malformed, in line %d', 6: 'no hub admits the step of the journal in line %d'}
-OPENING_TIMED = {1: 'the number of processes must be between 1 and 63, since timeouts need one more', 4: 'timeouts need edition 2'}
+OPENING_TIMED = {1: 'the number of processes must be between 1 and 63, since timeouts need one more', 4: 'timeouts need edition 2 or 3'}
 
 
 class Ended(Exception):
@@ -278,6 +280,8 @@ def _library() -> ctypes.CDLL:
             ('close', _Told, [hub, number, number]),
             ('exit', _Told, [hub, number]),
             ('cancel', _Told, [hub, number, number]),
+            ('start', _Told, [hub, number, number]),
+            ('reopen', _Told, [hub, number, number, ctypes.c_uint32]),
             ('cut', ctypes.c_bool, [hub]),
             ('steps_left', ctypes.c_uint64, [hub]),
             ('look', _Counts, [hub, number]),
@@ -306,7 +310,8 @@ def _calls_type() -> Any:
         loader.exec_module(module)
     except ImportError:
         return _Calls
-    functions = (getattr(_LIBRARY, 'chanhub_' + name) for name in ('begin', 'begin_until', 'resume', 'turn', 'make', 'close', 'cancel'))
+    names = 'begin', 'begin_until', 'resume', 'turn', 'make', 'close', 'cancel', 'start', 'reopen'
+    functions = (getattr(_LIBRARY, 'chanhub_' + name) for name in names)
     module.use(tuple(ctypes.cast(function, ctypes.c_void_p).value for function in functions), _case, Fired, Fault)
     return module.Calls
 
@@ -413,8 +418,8 @@ class _Calls:
         self._ask(pid, ([], is_select, numbers), things, _begin_until if deadline else _begin,
                     (self._hub, pid, packed, len(cases), default, word, *deadline))
 
-    def ask_other(self, pid: int, name: str, number: int) -> None:
-        self._ask(pid, ([], False, {}), {}, getattr(_LIBRARY, 'chanhub_' + name), (self._hub, pid, number))
+    def ask_other(self, pid: int, name: str, *numbers: int) -> None:
+        self._ask(pid, ([], False, {}), {}, getattr(_LIBRARY, 'chanhub_' + name), (self._hub, pid, *numbers))
 
     def told(self, pid: int) -> Optional[Tuple[int, int, int, int]]:
         answer = self._calls.get(pid, _NO_CALL)[0]
@@ -705,7 +710,7 @@ class Hub:
     others is reported.
 
     In edition 1, values are numbers and a select has up to 8 cases. Edition 2, the default, also has bytes as values, up to 16 cases,
-    and `cancel`.
+    and `cancel`. Edition 3 also has `start` and `reopen`.
 
     With `objects`, a value is any object, and whoever receives it gets this object itself. The hub carries a number for it, which the
     journal shows: 100 * k + pid for the k-th object that process `pid` sends or offers in a select, from 1. The object stays in a table
@@ -714,7 +719,7 @@ class Hub:
 
     Without `keep`, the hub makes at most `limit` steps (1 to 1,000,000, the default), not counting exits. Its journal has them all.
 
-    With `timeouts`, calls take a timeout. This needs edition 2 and at most 63 processes: the library has one more, the clock, whose number
+    With `timeouts`, calls take a timeout. This needs edition 2 or 3 and at most 63 processes: the library has one more, the clock, whose number
     is `procs`. The journal shows its steps: `cancel`, where a call has timed out. A call that waits with a timeout makes at most 5 steps.
     They count towards the limit, and a step is kept for each call that waits with a timeout, so that a full journal delays none.
 
@@ -1122,6 +1127,15 @@ class Seat:
         self.hub._caller().ask_other(self.pid, 'close', _within('port', port, 65535))
         self._result()
 
+    def reopen(self, port: int, cap: int) -> None:
+        """Opens a port again that is closed and empty, with a buffer for up to `cap` values, 0 to 1,024. Raises Fault 16 if it is open or
+        holds a value. The port keeps its number, so nobody should still use it for what it was.
+
+        Requires edition 3; in another it raises Fault 13.
+        """
+        self.hub._caller().ask_other(self.pid, 'reopen', _within('port', port, 65535), _within('capacity', cap, 2 ** 32 - 1))
+        self._result()
+
     def exit(self) -> None:
         """Ends the process, so that a deadlock among the others can be reported. Does nothing if it has already exited.
 
@@ -1137,10 +1151,21 @@ class Seat:
         if told.fault and told.fault != GONE:
             raise self.hub._error(self.pid, told.what, told.fault, 0, told.number)
 
+    def start(self, other: int) -> None:
+        """Starts a process again that has exited. Raises Fault 17 if it has not exited or does not exist.
+
+        Then `hub.seat(other)` calls as that process, and so does a seat from before. Start a process before the thread that is to call
+        as it. While no thread does, exit it: otherwise no deadlock is reported.
+
+        Requires edition 3; in another it raises Fault 13.
+        """
+        self.hub._caller().ask_other(self.pid, 'start', _within('process', other, 255))
+        self._result()
+
     def cancel(self, other: int) -> None:
         """Ends the waiting call of another process with Cancelled. Raises Fault 12 if that process has no waiting call.
 
-        Requires edition 2; in edition 1 it raises Fault 13.
+        Requires edition 2 or 3; in edition 1 it raises Fault 13.
         """
         self.hub._caller().ask_other(self.pid, 'cancel', _within('process', other, 255))
         self._result()

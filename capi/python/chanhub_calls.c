@@ -6,7 +6,7 @@
  *
  *     calls[pid, port]                makes a receive, and gives its result. Gives itself if there is none yet, or it is an exception:
  *     calls[pid, port, value]         then the call is open. The same for a send
- *     calls.ask(pid, cases, is_select, default, word[, deadline]), calls.ask_other(pid, name, number)
+ *     calls.ask(pid, cases, is_select, default, word[, deadline]), calls.ask_other(pid, name, number[, cap])
  *                                     make any other call, which is open then. A case is (port,) or (port, value)
  *     calls.told(pid)                 what, fault, index, and number or port of the open call's answer; None if no call is open
  *     calls.wait(pid, nanoseconds)    waits for its answer. Gives False, and does nothing, if a thread is in the library for the process
@@ -35,14 +35,16 @@ static struct {
                                 uint64_t deadline);
     chanhub_told (*resume)(chanhub *hub, unsigned pid, uint64_t nanoseconds);
     bool (*turn)(chanhub *hub, unsigned pid, uint64_t nanoseconds);
-    other *make, *close, *cancel;
+    other *make, *close, *cancel, *start;
+    chanhub_told (*reopen)(chanhub *hub, unsigned pid, unsigned port, uint32_t cap);
     PyObject *pack, *fired, *fault;
 } used;
 
-/* What is asked: another call with a number, or a call of these cases. */
+/* What is asked: another call with a number, a reopen, or a call of these cases. */
 struct asked {
     other *other;
-    unsigned number;
+    bool is_reopen;
+    unsigned number, cap;
     chanhub_case *cases;
     PyObject **values; /* what the cases send; NULL for a receive */
     size_t count;
@@ -119,6 +121,7 @@ static bool puts_things(struct calls *calls, unsigned pid, const struct asked *a
 
 static chanhub_told ask_once(struct calls *calls, unsigned pid, const struct asked *asked) {
     if (asked->other) return asked->other(calls->hub, pid, asked->number);
+    if (asked->is_reopen) return used.reopen(calls->hub, pid, asked->number, asked->cap);
     if (!asked->has_deadline) return used.begin(calls->hub, pid, asked->cases, asked->count, asked->has_default, asked->word);
     return used.begin_until(calls->hub, pid, asked->cases, asked->count, asked->has_default, asked->word, asked->deadline);
 }
@@ -271,12 +274,20 @@ static PyObject *ask(PyObject *self, PyObject *arguments) {
     return opens(calls, pid, &asked) ? Py_BuildValue("") : NULL;
 }
 
+/* The function of this name that takes one number. */
+static other *other_of(const char *name) {
+    if (strcmp(name, "make") == 0) return used.make;
+    if (strcmp(name, "close") == 0) return used.close;
+    return strcmp(name, "start") == 0 ? used.start : used.cancel;
+}
+
 static PyObject *ask_other(PyObject *self, PyObject *arguments) {
     struct asked asked = { 0 };
     unsigned pid;
     const char *name;
-    if (!PyArg_ParseTuple(arguments, "IsI", &pid, &name, &asked.number)) return NULL;
-    asked.other = strcmp(name, "make") == 0 ? used.make : strcmp(name, "close") == 0 ? used.close : used.cancel;
+    if (!PyArg_ParseTuple(arguments, "IsI|I", &pid, &name, &asked.number, &asked.cap)) return NULL;
+    asked.is_reopen = strcmp(name, "reopen") == 0;
+    if (!asked.is_reopen) asked.other = other_of(name);
     return opens((struct calls *)self, pid, &asked) ? Py_BuildValue("") : NULL;
 }
 
@@ -356,12 +367,12 @@ static PyType_Spec spec = { .name = "chanhub_calls.Calls", .basicsize = sizeof(s
 
 /* use(addresses, pack, fired, fault): what all calls use, with the addresses in the order of the struct. */
 static PyObject *use(PyObject *Py_UNUSED(self), PyObject *arguments) {
-    unsigned long long at[7];
-    if (!PyArg_ParseTuple(arguments, "(KKKKKKK)OOO", at, at + 1, at + 2, at + 3, at + 4, at + 5, at + 6, &used.pack, &used.fired,
-                          &used.fault)) return NULL;
+    unsigned long long at[9];
+    if (!PyArg_ParseTuple(arguments, "(KKKKKKKKK)OOO", at, at + 1, at + 2, at + 3, at + 4, at + 5, at + 6, at + 7, at + 8, &used.pack,
+                          &used.fired, &used.fault)) return NULL;
     Py_INCREF(used.pack), Py_INCREF(used.fired), Py_INCREF(used.fault);
-    void *from[7];
-    for (int i = 0; i < 7; i++) from[i] = (void *)(uintptr_t)at[i];
+    void *from[9];
+    for (int i = 0; i < 9; i++) from[i] = (void *)(uintptr_t)at[i];
     memcpy(&used, from, sizeof from);
     return Py_BuildValue("");
 }

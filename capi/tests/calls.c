@@ -15,7 +15,7 @@ static void openings(void) {
     is("no step", chanhub_open(&hub, 2, 1, 0), 2);
     is("too many steps", chanhub_open(&hub, 2, 1, 1000001), 2);
     is("edition 0", chanhub_open(&hub, 0, 1, 1), 4);
-    is("edition 3", chanhub_open(&hub, 3, 1, 1), 4);
+    is("edition 4", chanhub_open(&hub, 4, 1, 1), 4);
     is("an edition that would be 1 in a byte", chanhub_open(&hub, 257, 1, 1), 4);
     is("nothing is put", hub == NULL, 1);
     chanhub_free(hub);

@@ -55,7 +55,7 @@ static unsigned below(uint64_t *state, unsigned n) {
 static struct run run_of(uint64_t seed) {
     static const unsigned keeps[] = { 1, 2, 3, 5, 8, 13, 20, 40, 100 };
     uint64_t state = seed;
-    struct run r = { .seed = seed, .edition = 1 + seed % 2 };
+    struct run r = { .seed = seed, .edition = 1 + seed % 3 };
     r.procs = 1 + below(&state, MOST_PROCS);
     r.keep = keeps[below(&state, sizeof keeps / sizeof *keeps)];
     r.turns = 3 + r.keep * (2 + below(&state, MOST_CHAPTERS)) / r.procs;
@@ -65,7 +65,7 @@ static struct run run_of(uint64_t seed) {
     return r;
 }
 
-/* A number or, in edition 2, bytes. */
+/* A number or, from edition 2 on, bytes. */
 static chanhub_value random_value(uint64_t *state) {
     if (run.edition == 1 || below(state, 2)) return chanhub_number(random_word(state));
     char bytes[32];
@@ -108,7 +108,7 @@ static void keep(struct worker *w, chanhub_told t) {
     case CHANHUB_CLOSED: sprintf(line, "case %u closed", t.index); break;
     case CHANHUB_FAULT:
         if (t.fault == CHANHUB_BUSY || t.fault == CHANHUB_JOURNAL_FULL || t.fault == CHANHUB_NO_MEMORY) failures++;
-        if (t.fault <= CHANHUB_BUSY || (t.fault >= CHANHUB_JOURNAL_FULL && t.fault != CHANHUB_NOT_PARKED)) return;
+        if (t.fault <= CHANHUB_BUSY || (t.fault >= CHANHUB_JOURNAL_FULL && t.fault <= CHANHUB_NOT_YET && t.fault != CHANHUB_NOT_PARKED)) return;
         sprintf(line, "fault %u", t.fault);
         break;
     case CHANHUB_WAITING: failures++; return;
@@ -146,12 +146,22 @@ static chanhub_told turn(struct worker *w) {
     return chanhub_close(hub, w->pid, port);
 }
 
+/* A call of edition 3: processes leave and come back, and so do ports. Process 0 stays. */
+static chanhub_told turn_of_lives(struct worker *w) {
+    unsigned dice = below(&w->random, 100);
+    if (dice < 10 && w->pid) return chanhub_exit(hub, w->pid);
+    if (dice < 30) return chanhub_start(hub, w->pid, below(&w->random, run.procs + 1));
+    if (dice < 40) return chanhub_close(hub, w->pid, below(&w->random, 5));
+    if (dice < 60) return chanhub_reopen(hub, w->pid, below(&w->random, 5), below(&w->random, 4));
+    return turn(w);
+}
+
 static void *work(void *at) {
     struct worker *w = at;
     for (unsigned i = 0; i < run.turns; i++) {
         if (below(&w->random, 20) == 0) chanhub_cut(hub);
         if (below(&w->random, 40) == 0) usleep(below(&w->random, 200));
-        keep(w, turn(w));
+        keep(w, run.edition == 3 ? turn_of_lives(w) : turn(w));
     }
     keep(w, chanhub_exit(hub, w->pid));
     return NULL;

@@ -71,6 +71,11 @@ soaks() {
     mkdir -p "$work/$1-chapters" && "$work/$1" "$2" --chapters "$work/$1-chapters" && is_whole "$work/$1-chapters/chapter"
 }
 
+# lives NAME COUNT: whether so many processes come and go, each with a port that is opened again, and the chapters are whole.
+lives() {
+    mkdir -p "$work/$1-chapters" && "$work/$1" many "$2" "$work/$1-chapters" && is_whole "$work/$1-chapters/chapter"
+}
+
 # writes_files: whether chapters are written to files.
 writes_files() {
     mkdir -p "$work/written" && "$work/files" "$work/written"
@@ -208,7 +213,7 @@ printf 'timed out\ngot 9\n' > "$work/times"
 printf 'stalled: 0 recv 2\nstalled: 1 recv 1\n' > "$work/stalled"
 printf 'got 5\nneither\nsent\n' > "$work/choice-lines"
 
-for test in calls conveniences crew threads memory endless handing chapters files soak steps deadlines following followed_clock \
+for test in calls conveniences crew threads memory endless handing chapters files soak lives steps deadlines following followed_clock \
     followed_runs ends watch; do
     check "$test builds" "$cc" $flags "tests/$test.c" out/libchanhub.a -lpthread -o "$work/$test"
 done
@@ -265,6 +270,9 @@ check 'chapters in files' writes_files
 check 'hubs that stand still' is_watched watch
 check 'chapters of 200 random runs' chapters chapters 200
 check '16 threads without an end' soaks soak 3
+check 'processes and ports that come back' "$work/lives" alone
+check 'processes and ports that come back: 200 random runs that are followed' "$work/lives" followed 200
+check '20,000 processes that come and go' lives lives 20000
 [ -e "$tool" ] || skip 'chains of chapters' "no $tool"
 heap='-Wl,--wrap=malloc,--wrap=realloc,--wrap=mmap,--wrap=mremap heap.c'
 check 'heap builds' "$cc" $flags $heap tests/heap.c -o "$work/heap"
@@ -312,7 +320,7 @@ if echo 'int main(void) { return 0; }' | "$cc" -fsanitize=thread -x c - -o "$wor
     sanitized="$work/sanitized.o $proved -lpthread"
     check 'the library builds for the thread sanitizer' "$cc" $sanitize -r -nostdlib $hub texts.c \
         -o "$work/sanitized.o"
-    for test in crew threads handing chapters soak deadlines following followed_runs ends watch; do
+    for test in crew threads handing chapters soak lives deadlines following followed_runs ends watch; do
         check "$test builds for the thread sanitizer" "$cc" $sanitize "tests/$test.c" $sanitized -o "$work/sanitized-$test"
     done
     check 'resume builds for the thread sanitizer' "$cc" $sanitize -Wl,--wrap=clock_gettime tests/resume.c $sanitized -o "$work/sanitized-resume"
@@ -341,6 +349,8 @@ if echo 'int main(void) { return 0; }' | "$cc" -fsanitize=thread -x c - -o "$wor
     done
     check 'chapters of 40 random runs under the thread sanitizer' chapters sanitized-chapters 40
     check '16 threads without an end under the thread sanitizer' soaks sanitized-soak 3
+    check '20 random runs of lives that are followed under the thread sanitizer' "$work/sanitized-lives" followed 20
+    check '2,000 processes that come and go under the thread sanitizer' lives sanitized-lives 2000
     if [ -n "$by_cxx" ]; then
         check 'cpp builds for the thread sanitizer' "$cxx" $cxxflags -g -fsanitize=thread tests/cpp.cpp $sanitized -o "$work/sanitized-cpp"
         check 'each call from C++ under the thread sanitizer' "$work/sanitized-cpp"
@@ -350,7 +360,7 @@ else
 fi
 if command -v valgrind > "$work/found"; then
     for test in calls conveniences $by_cxx "crew $work 1 20" pool 'threads cancelled' 'threads second' 'threads closed' 'resume alone' \
-        'resume threads' 'deadlines alone' 'following alone' followed_clock 'ends alone' 'endless short' \
+        'resume threads' 'deadlines alone' 'following alone' followed_clock 'ends alone' 'endless short' 'lives alone' \
         'handing busy' 'handing parked' 'handing woken' 'handing full' 'handing cancelled' \
         "files $(mktemp -d -p "$work")"; do
         check "valgrind: $test" valgrind -q --error-exitcode=9 --leak-check=full --show-leak-kinds=all "$work"/$test

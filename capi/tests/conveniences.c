@@ -84,7 +84,7 @@ static void texts(void) {
     chanhub *hub;
     has_text("memory", chanhub_strerror(3), "out of memory");
     has_text("procs", chanhub_strerror(chanhub_open(&hub, 1, 0, 1)), "the number of processes must be between 1 and 64, or 63 with a clock");
-    has_text("edition", chanhub_strerror(chanhub_open(&hub, 3, 1, 1)), "the edition must be 1 or 2, and 2 with a clock");
+    has_text("edition", chanhub_strerror(chanhub_open(&hub, 4, 1, 1)), "the edition must be 1, 2 or 3, and 2 or 3 with a clock");
 }
 
 static void version(void) {

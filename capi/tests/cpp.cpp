@@ -132,7 +132,7 @@ static void openings() {
     int error = 9;
     is("no step", !Hub::open(1, 0, Edition::Two, &error) && error == 2);
     is("nothing is kept", !Hub::open_endless(1, 0, nullptr, Edition::Two, &error) && error == 2);
-    is("an edition", !Hub::open(1, 1, static_cast<Edition>(3), &error) && error == 4);
+    is("an edition", !Hub::open(1, 1, static_cast<Edition>(4), &error) && error == 4);
     is("opened", Hub::open(1, 1, Edition::One, &error) && error == 0);
     is("opened", Hub::open(64).has_value() && Hub::open_endless(64, 900000).has_value());
     is_short_of_memory = true;
@@ -359,6 +359,55 @@ static void exits() {
     is("a seat does not exit by itself", hub.seat(0).make_told(0).outcome == Outcome::Made);
 }
 
+// A process that has exited is started again.
+static void starts() {
+    Hub hub(2, Hub::most_steps, Edition::Three);
+    const Seat seat = hub.seat(0), other = hub.seat(1);
+    const Port port = seat.make(2);
+    is_fault("it has not exited", seat.start_told(1), Fault::NotGone);
+    is_fault("itself", seat.start_told(0), Fault::NotGone);
+    is_fault("no such process", seat.start_told(2), Fault::NotGone);
+    is_fault("a process that would be 1 in a byte", seat.start_told(257), Fault::BadCall);
+    throws("not gone", Outcome::Fault, Fault::NotGone, "chanhub: fault 17: the process has not exited", [&] { seat.start(1); });
+    other.exit();
+    is_fault("gone", other.send_told(port, 1), Fault::Gone);
+    seat.start(1);
+    other.send(port, 1);
+    hub.seat(1).send(port, 2);
+    is("both came", seat.recv(port) == Value(1) && seat.recv(port) == Value(2));
+    std::thread exits([&] {
+        await_entries(hub, 12);
+        other.exit();
+    });
+    throws("alone", Outcome::Stalled, Fault::None, "chanhub: stalled", [&] { static_cast<void>(seat.recv(port)); });
+    exits.join();
+    is("journal", hub.journal() == "chanhub journal 3\nprocs 2\n0 make 2\n0 start 1\n0 start 0\n0 start 2\n0 start 1\n1 exit\n0 start 1\n"
+                                   "1 send 1 1\n1 send 1 2\n0 recv 1\n0 recv 1\n0 recv 1\n1 exit\n");
+    is_fault("edition 2", Hub(1).seat(0).start_told(0), Fault::BadCall);
+}
+
+// A port that is closed and empty is opened again.
+static void reopens() {
+    Hub hub(1, Hub::most_steps, Edition::Three);
+    const Seat seat = hub.seat(0);
+    const Port port = seat.make(1);
+    is_fault("open", seat.reopen_told(port, 2), Fault::InUse);
+    seat.send(port, 1);
+    seat.close(port);
+    throws("a value is left", Outcome::Fault, Fault::InUse, "chanhub: fault 16: the port is in use", [&] { seat.reopen(port, 2); });
+    is("drained", seat.recv(port) == Value(1) && !seat.recv(port));
+    is_fault("capacity", seat.reopen_told(port, 1025), Fault::BadCap);
+    is_fault("no port", seat.reopen_told(Port{2}, 0), Fault::NoPort);
+    is_fault("port 0", seat.reopen_told(Port{}, 0), Fault::NilClose);
+    seat.reopen(port, 2);
+    seat.send(port, 2);
+    seat.send(port, "ab");
+    const chanhub::Counts counts = hub.look(port);
+    is("look", counts.made && !counts.closed && counts.cap == 2 && counts.sent == 3 && counts.received == 1);
+    is("got", seat.recv(port) == Value(2) && seat.recv(port) == Value("ab"));
+    is_fault("edition 2", Hub(1).seat(0).reopen_told(port, 0), Fault::BadCall);
+}
+
 // The chapters come once and in order; the last two when the hub is freed, also where another one is moved into it.
 static void chapters() {
     std::vector<std::string> texts;
@@ -563,6 +612,8 @@ int main(int argc, char **argv) {
     options();
     follows();
     exits();
+    starts();
+    reopens();
     chapters();
     chapters_of_threads();
     std::printf("cpp: %d of %d right\n", tried - wrong, tried.load());

@@ -65,7 +65,7 @@ static void openings(void) {
     is("too many with a clock", opening((chanhub_options){ .procs = UINT32_MAX, .clock = true }), 1);
     is("edition 1", opening((chanhub_options){ .edition = 1, .procs = 1 }), 0);
     is("edition 1 with a clock", opening((chanhub_options){ .edition = 1, .procs = 1, .clock = true }), 4);
-    is("edition 3", opening((chanhub_options){ .edition = 3, .procs = 1, .clock = true }), 4);
+    is("edition 4", opening((chanhub_options){ .edition = 4, .procs = 1, .clock = true }), 4);
     is("the limit", opening((chanhub_options){ .procs = 1, .limit = 1000001 }), 2);
     is("keep", opening((chanhub_options){ .procs = 1, .keep = 900001, .clock = true }), 2);
     is("keep", opening((chanhub_options){ .procs = 1, .keep = 900000, .chapters = ignore, .clock = true }), 0);

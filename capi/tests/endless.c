@@ -54,7 +54,7 @@ static void openings(void) {
     is("nothing is kept", chanhub_open_endless(&hub, 2, 1, 0, NULL, NULL), 2);
     is("too much is kept", chanhub_open_endless(&hub, 2, 1, 900001, collect, NULL), 2);
     is("edition 0", chanhub_open_endless(&hub, 0, 1, 1, NULL, NULL), 4);
-    is("edition 3", chanhub_open_endless(&hub, 3, 1, 1, NULL, NULL), 4);
+    is("edition 4", chanhub_open_endless(&hub, 4, 1, 1, NULL, NULL), 4);
     is("an edition that would be 1 in a byte", chanhub_open_endless(&hub, 257, 1, 1, NULL, NULL), 4);
     is("nothing is put", hub == NULL, 1);
     is("the most", chanhub_open_endless(&hub, 2, 64, 900000, NULL, NULL), 0);

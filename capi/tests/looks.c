@@ -72,7 +72,8 @@ static void step(bool has_clock) {
     }
     size_t count = 1 + below(3);
     if (kind == 0) chanhub_make(hub, pid, below(4));
-    else if (kind == 1 && below(4) == 0) chanhub_close(hub, pid, port);
+    else if (kind == 1 && below(2)) chanhub_close(hub, pid, port);
+    else if (kind == 1) chanhub_reopen(hub, pid, port, below(6));
     else if (kind == 2) chanhub_cancel(hub, pid, below(PROCS));
     else if (kind == 3) chanhub_cut(hub);
     else if (kind < 6) chanhub_try_send(hub, pid, port, chanhub_number(7));
@@ -98,7 +99,7 @@ static void look_at_all(bool *shown) {
 
 /* A run on a hub that has a limit, never ends, or has a clock. */
 static void run(unsigned seed) {
-    chanhub_options options = { .procs = PROCS, .keep = seed % 3 == 1 ? 40 : 0, .clock = seed % 3 == 2 };
+    chanhub_options options = { .edition = 3, .procs = PROCS, .keep = seed % 3 == 1 ? 40 : 0, .clock = seed % 3 == 2 };
     bool shown[PORTS + 1] = { false };
     state = seed;
     is("opened", chanhub_open_with(&hub, &options), 0);

@@ -172,13 +172,13 @@ class Calls(unittest.TestCase):
         self.assertEqual((again[0].index, again[1].number), (3, 5))
 
     def test_openings_are_refused(self):
-        for procs, edition, limit in ((0, 1, 1), (65, 1, 1), (1, 3, 1), (1, 1, 0), (1, 1, 1_000_001)):
+        for procs, edition, limit in ((0, 1, 1), (65, 1, 1), (1, 4, 1), (1, 1, 0), (1, 1, 1_000_001)):
             with self.assertRaises(ValueError):
                 Hub(procs, edition, limit)
 
     def test_openings_with_keep_are_refused(self):
         for arguments in (dict(keep=0), dict(keep=-1), dict(keep=900_001), dict(keep=2 ** 32 + 1), dict(procs=0, keep=1),
-                          dict(procs=65, keep=1), dict(edition=3, keep=1), dict(limit=1, keep=1), dict(chapters=print),
+                          dict(procs=65, keep=1), dict(edition=4, keep=1), dict(limit=1, keep=1), dict(chapters=print),
                           dict(limit=1, chapters='name'), dict(keep=1, chapters='a\0b')):
             for chapters in ({}, dict(chapters=print)):
                 with self.assertRaises(ValueError):
@@ -215,6 +215,100 @@ class Calls(unittest.TestCase):
                     self.assertEqual(fault.number, 12)
                     time.sleep(0.001)
             self.assertEqual(len(ended), 1)
+
+    def raises_fault(self, number, call, *arguments):
+        with self.assertRaises(Fault) as raised:
+            call(*arguments)
+        self.assertEqual(raised.exception.number, number)
+
+    def test_a_process_that_has_exited_is_started_again(self):
+        with Hub(procs=2, edition=3) as hub:
+            boss, old = hub.seat(0), hub.seat(1)
+            port = boss.make(2)
+            for other in (1, 0, 2):
+                self.raises_fault(chanhub.NOT_GONE, boss.start, other)
+            with self.assertRaises(ValueError):
+                boss.start(256)
+            with old:
+                old.send(port, 5)
+            self.raises_fault(chanhub.GONE, old.send, port, 6)
+            boss.start(1)
+            old.send(port, 6)
+            self.assertEqual([boss.recv(port), boss.recv(port)], [5, 6])
+            with hub.seat(1) as new:
+                self.assertIsNone(new.select([Recv(port)], default=True))
+            with self.assertRaises(Stalled):
+                boss.recv(port)
+            self.assertEqual(hub.journal().decode().split('\n')[2:-1], [
+                '0 make 2', '0 start 1', '0 start 0', '0 start 2', '1 send 1 5', '1 exit', '0 start 1', '1 send 1 6', '0 recv 1', '0 recv 1',
+                '1 select 0 r1 default', '1 exit', '0 recv 1'])
+        with Hub(procs=1) as hub:
+            self.raises_fault(13, hub.seat(0).start, 0)
+        self.assertEqual(str(Fault(chanhub.NOT_GONE)), 'fault 17: the process has not exited')
+
+    def test_a_closed_port_is_opened_again(self):
+        with Hub(procs=1, edition=3) as hub:
+            seat = hub.seat(0)
+            port = seat.make(1)
+            self.raises_fault(chanhub.IN_USE, seat.reopen, port, 2)
+            port.put(b'a')
+            port.close()
+            self.raises_fault(chanhub.IN_USE, seat.reopen, port, 2)
+            self.assertEqual(list(port), [b'a'])
+            for number, at, cap in ((6, port, 1025), (5, 2, 0), (8, 0, 0)):
+                self.raises_fault(number, seat.reopen, at, cap)
+            for at, cap in ((65536, 0), (port, 2 ** 32), (port, -1)):
+                with self.assertRaises(ValueError):
+                    seat.reopen(at, cap)
+            self.assertIsNone(seat.reopen(port, 2))
+            port.put(1)
+            port.put(2)
+            self.assertEqual(hub.look(port), Counts(2, 3, 1, False))
+            self.assertEqual([port.get(), port.get()], [1, 2])
+        with Hub(procs=1) as hub:
+            self.raises_fault(13, hub.seat(0).reopen, hub.seat(0).make(0), 0)
+        self.assertEqual(str(Fault(chanhub.IN_USE)), 'fault 16: the port is in use')
+
+    def test_objects_of_a_process_that_is_started_again_have_further_numbers(self):
+        with Hub(procs=2, edition=3, objects=True) as hub, hub.seat(0) as boss:
+            port = boss.make(2)
+            for thing in ('a', 'b'):
+                with hub.seat(1) as seat:
+                    seat.send(port, thing)
+                boss.start(1)
+            self.assertEqual([boss.recv(port), boss.recv(port)], ['a', 'b'])
+            self.assertEqual([line for line in hub.journal().split(b'\n') if b'send' in line], [b'1 send 1 101', b'1 send 1 201'])
+
+    def test_nobody_starts_the_clock(self):
+        with Hub(procs=1, edition=3, timeouts=True) as hub:
+            self.raises_fault(1, hub.seat(0).start, 1)
+        with self.assertRaisesRegex(ValueError, 'timeouts need edition 2 or 3'):
+            Hub(procs=1, edition=1, timeouts=True)
+
+    def test_a_hub_ends_while_processes_are_started(self):
+        for _ in range(50):
+            with Hub(procs=3, edition=3, limit=1_000_000) as hub:
+                port = hub.seat(0).make(0)
+
+                def work(pid):
+                    try:
+                        while True:
+                            with hub.seat(pid) as seat:
+                                pass
+                            hub.seat(0).start(pid)
+                    except HubEnded:
+                        pass
+
+                def wait():
+                    try:
+                        hub.seat(2).recv(port)
+                    except HubEnded:
+                        pass
+                threads = [threading.Thread(target=work, args=(1,)), threading.Thread(target=wait)]
+                for thread in threads:
+                    thread.start()
+                time.sleep(0.001)
+            self.assertTrue(joined(threads))
 
     def test_steps_that_are_left(self):
         with Hub(procs=1, limit=5) as hub, hub.seat(0) as seat:

@@ -51,6 +51,20 @@ class Following(unittest.TestCase):
             call(*arguments)
         self.assertEqual(raised.exception.step, step)
 
+    def test_starts_and_reopens_wait_for_their_turns(self):
+        hub = Hub.follow(b'chanhub journal 3\nprocs 2\n0 make 0\n0 close 1\n1 reopen 1 1\n1 exit\n0 start 1\n1 send 1 7\n0 recv 1\n')
+        zero, one = hub.seat(0), hub.seat(1)
+        reopened = self.in_thread(lambda: one.reopen(1, 1))
+        port = zero.make(0)
+        zero.close(port)
+        reopened()
+        started = self.in_thread(lambda: zero.start(1))
+        one.exit()
+        started()
+        one.send(port, 7)
+        self.assertEqual(zero.recv(port), 7)
+        self.diverges(8, zero.reopen, port, 2)
+
     def test_answers_are_the_recorded_ones(self):
         hub = Hub.follow(JOURNAL)
         zero, one = hub.seat(0), hub.seat(1)

@@ -163,7 +163,7 @@ func TestOpeningsAreRefused(t *testing.T) {
 		{2, 1, -1, chanhub.ErrLimit},
 		{2, 1, 1<<32 + 1, chanhub.ErrLimit},
 		{0, 1, 1, chanhub.ErrEdition},
-		{3, 1, 1, chanhub.ErrEdition},
+		{4, 1, 1, chanhub.ErrEdition},
 		{-1, 1, 1, chanhub.ErrEdition},
 		{1<<32 + 1, 1, 1, chanhub.ErrEdition},
 	} {
@@ -197,6 +197,8 @@ func TestFaults(t *testing.T) {
 		{"a full journal", full.Seat(0).Close(1), chanhub.FaultJournalFull},
 		{"a cancel of a call that does not wait", seat.Cancel(0), chanhub.FaultNotParked},
 		{"a cancel in edition 1", first.Cancel(0), chanhub.FaultBadCall},
+		{"a start in edition 2", seat.Start(1), chanhub.FaultBadCall},
+		{"a reopen in edition 2", seat.Reopen(port, 1), chanhub.FaultBadCall},
 		{"bytes in edition 1", first.Send(0, bytesOf(t, "seven")), chanhub.FaultBadCall},
 		{"a negative process", two.Seat(-1).Exit(), chanhub.FaultBadCall},
 		{"a process that C would cut to 0", two.Seat(1 << 32).Exit(), chanhub.FaultBadCall},
@@ -278,6 +280,66 @@ func TestACallThatWaitsIsCancelled(t *testing.T) {
 	untilItStands(t, hub, "1 recv 1")
 	told(t, "cancel", hub.Seat(0).Cancel(1), nil)
 	told(t, "receive", <-cancelled, chanhub.ErrCancelled)
+}
+
+func TestAProcessThatHasExitedIsStartedAgain(t *testing.T) {
+	hub := open(t, chanhub.Edition3, 2, 100)
+	boss, worker := hub.Seat(0), hub.Seat(1)
+	port := makePort(t, boss, 2)
+	for _, other := range []int{1, 0, 2} {
+		told(t, "a start", boss.Start(other), chanhub.FaultNotGone)
+	}
+	for _, other := range []int{-1, 256, 1<<32 + 1} {
+		told(t, "a start of what no process can be", boss.Start(other), chanhub.FaultBadCall)
+	}
+	told(t, "exit", worker.Exit(), nil)
+	told(t, "send", worker.Send(port, chanhub.Number(1)), chanhub.FaultGone)
+	told(t, "start", boss.Start(1), nil)
+	told(t, "send", worker.Send(port, chanhub.Number(1)), nil)
+	told(t, "send of another seat", hub.Seat(1).Send(port, chanhub.Number(2)), nil)
+	told(t, "exit", hub.Seat(1).Exit(), nil)
+	for number := uint64(1); number <= 2; number++ {
+		if value, err := boss.Recv(port); err != nil || value != chanhub.Number(number) {
+			t.Errorf("received %v, %v", value, err)
+		}
+	}
+	_, err := boss.Recv(port)
+	told(t, "receive", err, chanhub.ErrStalled)
+	journal, _ := hub.Journal()
+	wanted := "chanhub journal 3\nprocs 2\n0 make 2\n0 start 1\n0 start 0\n0 start 2\n1 exit\n0 start 1\n1 send 1 1\n1 send 1 2\n1 exit\n" +
+		"0 recv 1\n0 recv 1\n0 recv 1\n"
+	if string(journal) != wanted {
+		t.Errorf("journal %q", journal)
+	}
+}
+
+func TestAClosedPortIsOpenedAgain(t *testing.T) {
+	hub := open(t, chanhub.Edition3, 1, 100)
+	seat := hub.Seat(0)
+	port := makePort(t, seat, 1)
+	told(t, "reopen of an open port", seat.Reopen(port, 2), chanhub.FaultInUse)
+	told(t, "send", seat.Send(port, chanhub.Number(1)), nil)
+	told(t, "close", seat.Close(port), nil)
+	told(t, "reopen of a port with a value", seat.Reopen(port, 2), chanhub.FaultInUse)
+	_, err := seat.Recv(port)
+	told(t, "receive", err, nil)
+	_, err = seat.Recv(port)
+	told(t, "receive", err, chanhub.ErrDrained)
+	for _, capacity := range []int{-1, 1_025, 1 << 32} {
+		told(t, "a capacity", seat.Reopen(port, capacity), chanhub.FaultBadCap)
+	}
+	told(t, "reopen of no port", seat.Reopen(port+1, 0), chanhub.FaultNoPort)
+	told(t, "reopen of port 0", seat.Reopen(0, 0), chanhub.FaultNilClose)
+	told(t, "reopen", seat.Reopen(port, 2), nil)
+	for number := uint64(2); number <= 3; number++ {
+		told(t, "send", seat.Send(port, chanhub.Number(number)), nil)
+	}
+	if counts, err := hub.Look(port); err != nil || counts != (chanhub.Counts{Capacity: 2, Sent: 3, Received: 1}) {
+		t.Errorf("looked: %+v, %v", counts, err)
+	}
+	if value, err := seat.Recv(port); err != nil || value != chanhub.Number(2) {
+		t.Errorf("received %v, %v", value, err)
+	}
 }
 
 func TestDrainTellsItsEnd(t *testing.T) {

@@ -31,8 +31,8 @@ func MakeChan[T any](seat *Seat, capacity int) (*Chan[T], error) {
 	return &Chan[T]{hub: seat.hub, port: port, capacity: capacity, values: make(map[uint64]T)}, nil
 }
 
-// Port returns the number of the channel, by which journals, stories and pictures name it. Use it in no call that sends or
-// receives.
+// Port returns the number of the channel, by which journals, stories and pictures name it. Use it in no call that sends, receives or
+// reopens.
 func (c *Chan[T]) Port() Port {
 	return c.port
 }

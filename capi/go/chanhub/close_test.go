@@ -39,6 +39,8 @@ func TestCallsOnAClosedHubAreRefused(t *testing.T) {
 	told(t, "select with a default", err, chanhub.ErrHubClosed)
 	told(t, "close of a channel", seat.Close(port), chanhub.ErrHubClosed)
 	told(t, "cancel", seat.Cancel(1), chanhub.ErrHubClosed)
+	told(t, "start", seat.Start(1), chanhub.ErrHubClosed)
+	told(t, "reopen", seat.Reopen(port, 1), chanhub.ErrHubClosed)
 	told(t, "exit", seat.Exit(), chanhub.ErrHubClosed)
 	told(t, "a process that was not", hub.Seat(2).Exit(), chanhub.ErrHubClosed)
 	_, err = hub.Look(port)
@@ -125,6 +127,32 @@ func TestCloseWhileCallsRun(t *testing.T) {
 		}
 		closes.Wait()
 		calls.Wait()
+	}
+}
+
+// A process that is started while its hub is closed exits again, so that the calls that wait end.
+func TestCloseWhileProcessesAreStarted(t *testing.T) {
+	for round := 0; round < 200; round++ {
+		hub, err := chanhub.Open(chanhub.Edition3, 3, 1_000_000)
+		told(t, "open", err, nil)
+		ended := make(chan error)
+		go func() {
+			_, err := hub.Seat(2).Recv(0)
+			ended <- err
+		}()
+		go func() {
+			err := error(nil)
+			for err == nil {
+				hub.Seat(1).Exit()
+				err = hub.Seat(0).Start(1)
+			}
+			ended <- err
+		}()
+		time.Sleep(time.Duration(round) * 10 * time.Microsecond)
+		told(t, "close", hub.Close(), nil)
+		for i := 0; i < 2; i++ {
+			told(t, "a call", <-ended, chanhub.ErrHubClosed)
+		}
 	}
 }
 

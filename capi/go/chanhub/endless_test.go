@@ -281,7 +281,7 @@ func TestEndlessOpeningsAreRefused(t *testing.T) {
 		{2, 1, -1, written, chanhub.ErrKeep},
 		{2, 1, 1<<32 + 1, discarded, chanhub.ErrKeep},
 		{0, 1, 1, discarded, chanhub.ErrEdition},
-		{3, 1, 1, given, chanhub.ErrEdition},
+		{4, 1, 1, given, chanhub.ErrEdition},
 		{2, 1, 1, chanhub.Chapters{Files: "a\x00b"}, chanhub.ErrFiles},
 	} {
 		hub, err := chanhub.OpenEndless(row.edition, row.procs, row.keep, row.chapters)

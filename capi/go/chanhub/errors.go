@@ -29,7 +29,7 @@ var (
 	ErrLimit   = errors.New("chanhub: the step limit must be between 1 and 1,000,000")
 	ErrKeep    = errors.New("chanhub: the number of steps to keep must be between 1 and 900,000")
 	ErrFiles   = errors.New("chanhub: the name of the files has a zero byte")
-	ErrEdition = errors.New("chanhub: the edition must be 1 or 2, and 2 with timeouts")
+	ErrEdition = errors.New("chanhub: the edition must be 1, 2 or 3, and 2 or 3 with timeouts")
 	ErrMemory  = errors.New("chanhub: out of memory")
 )
 
@@ -39,7 +39,7 @@ var ErrTooLong = errors.New("chanhub: a value has at most 32 bytes")
 // A Fault is the reason why the hub did not carry out a call. It has the same number in chanhub.h and in the events of a journal.
 type Fault uint8
 
-// The faults. The page docs/SEMANTICS.md explains faults 1 to 12. Fault 13 exists only in the library.
+// The faults. The page docs/SEMANTICS.md explains them, but for fault 13, which exists only in the library.
 const (
 	FaultNoProcess     Fault = C.CHANHUB_NO_PROCESS     // the hub has no such process
 	FaultGone          Fault = C.CHANHUB_GONE           // the process has exited
@@ -48,12 +48,14 @@ const (
 	FaultNoPort        Fault = C.CHANHUB_NO_PORT        // the hub has no such port
 	FaultBadCap        Fault = C.CHANHUB_BAD_CAP        // the capacity is not between 0 and 1,024
 	FaultTooManyPorts  Fault = C.CHANHUB_TOO_MANY_PORTS // the hub already has 64 ports
-	FaultNilClose      Fault = C.CHANHUB_NIL_CLOSE      // close of port 0
+	FaultNilClose      Fault = C.CHANHUB_NIL_CLOSE      // close or reopen of port 0
 	FaultAlreadyClosed Fault = C.CHANHUB_ALREADY_CLOSED // close of a closed port
 	FaultJournalFull   Fault = C.CHANHUB_JOURNAL_FULL   // the hub has reached its step limit; an exit is still possible
 	FaultNoMemory      Fault = C.CHANHUB_NO_MEMORY      // out of memory; an exit is still possible, unless a chapter would begin with it
 	FaultNotParked     Fault = C.CHANHUB_NOT_PARKED     // the process has no waiting call to cancel
-	FaultBadCall       Fault = C.CHANHUB_BAD_CALL       // a process number outside 0 to 255, more than 16 cases, a call that needs Edition2 or Timeouts, or a cut of a hub of Open
+	FaultBadCall       Fault = C.CHANHUB_BAD_CALL       // a process number outside 0 to 255, more than 16 cases, a call that needs another Edition or Timeouts, or a cut of a hub of Open
+	FaultInUse         Fault = C.CHANHUB_IN_USE         // reopen of a port that is open or holds a value
+	FaultNotGone       Fault = C.CHANHUB_NOT_GONE       // start of a process that has not exited, or does not exist
 )
 
 var faultTexts = map[Fault]string{
@@ -69,7 +71,9 @@ var faultTexts = map[Fault]string{
 	FaultJournalFull:   "the hub has reached its step limit",
 	FaultNoMemory:      "out of memory",
 	FaultNotParked:     "the process has no waiting call to cancel",
-	FaultBadCall:       "a process number outside 0 to 255, more than 16 cases, a call that needs edition 2 or timeouts, or a cut of a hub that ends",
+	FaultBadCall:       "a process number outside 0 to 255, more than 16 cases, a call that needs another edition or timeouts, or a cut of a hub that ends",
+	FaultInUse:         "the port is in use",
+	FaultNotGone:       "the process has not exited",
 }
 
 // Error returns the number of the fault and its meaning.

@@ -57,7 +57,8 @@
 // A hub of [Open] keeps its whole journal. It makes at most 1,000,000 steps, not counting exits, so it suits tests and finite runs.
 // A hub of [OpenEndless] never ends. It keeps the newest steps, and the older ones go where its [Chapters] say.
 //
-// A hub has at most 64 ports, and a closed port still counts.
+// A hub has at most 64 ports, and a closed port still counts. In [Edition3] a process that has exited can be started again, and a closed
+// port opened again.
 //
 // # Contexts
 //
@@ -98,6 +99,8 @@ const (
 	Edition1 Edition = 1
 	// In Edition2, values may also be bytes, a select has up to 16 cases, and [Seat.Cancel] works.
 	Edition2 Edition = 2
+	// In Edition3, [Seat.Start] and [Seat.Reopen] work too.
+	Edition3 Edition = 3
 )
 
 // A Port is the number of a channel. Ports are numbered from 1 in the order in which they are made. Port 0 always exists and is

@@ -26,7 +26,7 @@ type Options struct {
 	Keep     int      // if it is set, the hub never ends, as one of [OpenEndless], and has no Limit
 	Chapters Chapters // as for OpenEndless; only with Keep
 
-	// Timeouts lets calls take a context: [Seat.SendContext], [Chan.RecvContext] and so on. This needs Edition2.
+	// Timeouts lets calls take a context: [Seat.SendContext], [Chan.RecvContext] and so on. This needs Edition2 or Edition3.
 	//
 	// The hub then has one more process, the clock, whose number is Procs. The library makes its steps, so that the journal tells
 	// which calls gave up: the clock cancels them. While a call waits whose context may be done, no deadlock is reported, since

@@ -105,8 +105,18 @@ func (s *Seat) Close(port Port) error {
 	return err
 }
 
-// Exit ends the process. Later calls of the process return [FaultGone]. Once a process has exited, a deadlock among the others can
-// be reported.
+// Reopen opens a port again that is closed and empty, with a buffer for up to capacity values, from 0 to 1,024. It returns [FaultInUse]
+// if the port is open or holds a value. The port keeps its number, so nobody should still use it for what it was. Reopen requires
+// [Edition3].
+func (s *Seat) Reopen(port Port, capacity int) error {
+	_, err := s.call(func(hub *C.chanhub, pid C.uint) C.chanhub_told {
+		return C.chanhub_reopen(hub, pid, C.uint(port), C.uint32_t(within(capacity)))
+	})
+	return err
+}
+
+// Exit ends the process. Later calls of the process return [FaultGone], unless it is started again. Once a process has exited, a deadlock
+// among the others can be reported.
 func (s *Seat) Exit() error {
 	_, err := s.call(func(hub *C.chanhub, pid C.uint) C.chanhub_told {
 		return C.chanhub_exit(hub, pid)
@@ -114,8 +124,25 @@ func (s *Seat) Exit() error {
 	return err
 }
 
+// Start starts another process again, which has exited. It returns [FaultNotGone] if that process has not exited or does not exist. Start
+// requires [Edition3].
+//
+// Then each seat of that process can call again, whether it is from before or [Hub.Seat] returns it now. Start a process before the
+// goroutine that is to call as it. If there is no such goroutine in the end, call [Seat.Exit] for the process, as with [Open].
+func (s *Seat) Start(other int) error {
+	// It counts as a call of the other process too: if the hub is closed meanwhile, that one has to exit after it.
+	if err := s.hub.enter(other); err != nil {
+		return err
+	}
+	defer s.hub.leave(other)
+	_, err := s.call(func(hub *C.chanhub, pid C.uint) C.chanhub_told {
+		return C.chanhub_start(hub, pid, within(other))
+	})
+	return err
+}
+
 // Cancel ends the waiting call of another process, which then returns [ErrCancelled]. Cancel returns [FaultNotParked] if that
-// process has no waiting call. It requires [Edition2].
+// process has no waiting call. It requires [Edition2] or [Edition3].
 func (s *Seat) Cancel(other int) error {
 	_, err := s.call(func(hub *C.chanhub, pid C.uint) C.chanhub_told {
 		return C.chanhub_cancel(hub, pid, within(other))

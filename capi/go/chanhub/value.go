@@ -10,7 +10,7 @@ import (
 
 const mostBytes = 32
 
-// A Value is what a channel carries: a number or, in [Edition2], 0 to 32 bytes. Values can be compared with ==. The zero Value is
+// A Value is what a channel carries: a number or, from [Edition2] on, 0 to 32 bytes. Values can be compared with ==. The zero Value is
 // the number 0.
 type Value struct {
 	number  uint64

@@ -66,8 +66,12 @@ func TestFaultsSayWhatTheirNumbersMean(t *testing.T) {
 		10: "the hub has reached its step limit",
 		11: "out of memory",
 		12: "the process has no waiting call to cancel",
-		13: "a process number outside 0 to 255, more than 16 cases, a call that needs edition 2 or timeouts, or a cut of a hub that ends",
+		13: "a process number outside 0 to 255, more than 16 cases, a call that needs another edition or timeouts, or a cut of a hub that ends",
 		14: "a number that chanhub.h does not define",
+		15: "a number that chanhub.h does not define",
+		16: "the port is in use",
+		17: "the process has not exited",
+		18: "a number that chanhub.h does not define",
 	} {
 		wanted = fmt.Sprintf("chanhub: fault %d: %s", number, wanted)
 		if said := chanhub.Fault(number).Error(); said != wanted {

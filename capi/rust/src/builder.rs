@@ -72,7 +72,8 @@ impl Builder {
         self
     }
 
-    /// Lets calls take timeouts, such as [`Receiver::recv_timeout`](crate::Receiver::recv_timeout). This needs [`Edition::Two`].
+    /// Lets calls take timeouts, such as [`Receiver::recv_timeout`](crate::Receiver::recv_timeout). [`Edition::One`] has
+    /// none.
     ///
     /// The hub then has one more process, the clock, whose number is the number of processes. The library makes its steps, so that
     /// the journal tells which calls timed out: the clock cancels them. While a call with a timeout waits, no deadlock is reported,

@@ -16,7 +16,7 @@ pub enum OpenError {
     Keep,
     /// Memory ran out.
     Memory,
-    /// [Timeouts](crate::Builder::timeouts) need [`Edition::Two`](crate::Edition::Two).
+    /// [Timeouts](crate::Builder::timeouts) need another edition than [`Edition::One`](crate::Edition::One).
     Edition,
     /// The journal to follow is malformed, first in this line, from 1.
     Malformed(u32),
@@ -56,14 +56,14 @@ pub enum Ended {
 
 /// The reason why the hub did not carry out a call. The number is the same as in `chanhub.h`.
 ///
-/// Safe Rust never meets [`NO_PROCESS`](Fault::NO_PROCESS), [`GONE`](Fault::GONE), [`BUSY`](Fault::BUSY),
-/// [`NO_PORT`](Fault::NO_PORT) and [`NIL_CLOSE`](Fault::NIL_CLOSE): the types of this crate rule them out. The library for C
-/// reports them.
+/// Safe Rust never meets [`GONE`](Fault::GONE), [`BUSY`](Fault::BUSY), [`NO_PORT`](Fault::NO_PORT) and
+/// [`NIL_CLOSE`](Fault::NIL_CLOSE): the types of this crate rule them out. The library for C reports them.
 #[derive(Clone, Copy, Debug, PartialEq, Eq)]
 pub struct Fault(pub u8);
 
 impl Fault {
-    /// The hub has no such process.
+    /// The hub has no such process, or it is the clock of a hub with [timeouts](crate::Builder::timeouts), which nobody cancels or
+    /// starts.
     pub const NO_PROCESS: Fault = Fault(1);
     /// The process has exited.
     pub const GONE: Fault = Fault(2);
@@ -77,7 +77,7 @@ impl Fault {
     pub const BAD_CAP: Fault = Fault(6);
     /// The hub already has 64 channels.
     pub const TOO_MANY_PORTS: Fault = Fault(7);
-    /// The call would have closed port 0.
+    /// The call would have closed or reopened port 0.
     pub const NIL_CLOSE: Fault = Fault(8);
     /// The call would have closed a channel that is already closed.
     pub const ALREADY_CLOSED: Fault = Fault(9);
@@ -87,14 +87,18 @@ impl Fault {
     pub const NO_MEMORY: Fault = Fault(11);
     /// The call would have cancelled the call of a process that has no waiting call.
     pub const NOT_PARKED: Fault = Fault(12);
-    /// The call used a channel of another hub, had more than 16 cases, requires edition 2 or [timeouts](crate::Builder::timeouts), or
-    /// would have cut a hub of [`Hub::open`](crate::Hub::open).
+    /// The call used a channel of another hub, had more than 16 cases, requires another edition or
+    /// [timeouts](crate::Builder::timeouts), or would have cut a hub of [`Hub::open`](crate::Hub::open).
     pub const BAD_CALL: Fault = Fault(13);
     /// The journal that the hub [follows](crate::Hub::follow) has another step here: [`Hub::divergence`](crate::Hub::divergence) says
     /// which. Sends, receives and selects return [`Ended::Diverged`] instead.
     pub const DIVERGED: Fault = Fault(14);
     /// The turn of the call has not come. No hub of this crate is opened so that it reports this.
     pub const NOT_YET: Fault = Fault(15);
+    /// The call would have reopened a channel that is open or holds a value.
+    pub const IN_USE: Fault = Fault(16);
+    /// The call would have started a process that has not exited, or does not exist.
+    pub const NOT_GONE: Fault = Fault(17);
 
     fn text(self) -> &'static str {
         match self {
@@ -111,10 +115,12 @@ impl Fault {
             Fault::NO_MEMORY => "out of memory",
             Fault::NOT_PARKED => "the process has no waiting call to cancel",
             Fault::BAD_CALL => {
-                "a channel of another hub, more than 16 cases, a call that needs edition 2 or timeouts, or a cut of a hub that ends"
+                "a channel of another hub, more than 16 cases, a call that needs another edition or timeouts, or a cut of a hub that ends"
             }
             Fault::DIVERGED => "the journal that the hub follows has another step here",
             Fault::NOT_YET => "other steps come first in the journal that the hub follows",
+            Fault::IN_USE => "the port is in use",
+            Fault::NOT_GONE => "the process has not exited",
             _ => "a number that chanhub.h does not define",
         }
     }
@@ -135,7 +141,7 @@ impl fmt::Display for OpenError {
             OpenError::Limit => "the step limit must be between 1 and 1,000,000",
             OpenError::Keep => "the number of steps to keep must be between 1 and 900,000",
             OpenError::Memory => "out of memory",
-            OpenError::Edition => "timeouts need edition 2",
+            OpenError::Edition => "timeouts need edition 2 or 3",
         })
     }
 }

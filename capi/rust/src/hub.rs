@@ -7,6 +7,7 @@ use crate::value::Value;
 use std::cell::Cell;
 use std::fmt;
 use std::iter::FusedIterator;
+use std::marker::PhantomData;
 use std::mem;
 use std::os::raw::{c_char, c_int, c_uint};
 use std::panic::RefUnwindSafe;
@@ -25,13 +26,18 @@ pub(crate) const MOST_CASES: usize = 16;
 /// The most cases for which a select clears so few places that this needs no call.
 const FEW_CASES: usize = 4;
 
-/// The edition of a hub, which determines what its calls may contain. Use `Two` unless numbers are enough.
+/// The edition of a hub, which determines what its calls may contain. Use `Two` unless numbers are enough. Later versions may have
+/// more editions.
 #[derive(Clone, Copy, Debug, PartialEq, Eq)]
+#[non_exhaustive]
 pub enum Edition {
     /// Values are numbers, and a select has up to 8 cases.
     One,
     /// Values are numbers or bytes, a select has up to 16 cases, and a process can cancel the call of another.
     Two,
+    /// As `Two`. A process that has exited can also be [started](Seat::start) again, and a closed channel
+    /// [opened](Sender::reopen) again.
+    Three,
 }
 
 impl Edition {
@@ -39,6 +45,7 @@ impl Edition {
         match self {
             Edition::One => 1,
             Edition::Two => 2,
+            Edition::Three => 3,
         }
     }
 }
@@ -56,28 +63,38 @@ struct Raw {
     _handler: Option<Handler>,
 }
 
-/// Whether a call as a process runs: one of the thread that has its seat or, for the time of a close, of another one.
-///
-/// All operations on this and on `Abandoned::are_some` have one order. So a thread that abandons a port and then finds the process in
-/// a call, and the thread that ends this call and then looks for abandoned ports, cannot miss each other.
+/// A process of a hub, as this crate knows it.
 #[repr(align(64))] // each in a line of the cache of its own
-struct Process(AtomicU8);
+struct Process {
+    /// Whether a call as the process runs: one of the thread that has its seat or, for the time of a close, of another one.
+    ///
+    /// All operations on this and on `Abandoned::are_some` have one order. So a thread that abandons a port and then finds the process
+    /// in a call, and the thread that ends this call and then looks for abandoned ports, cannot miss each other.
+    state: AtomicU8,
+    /// How many values the process has given to tables, through this seat and those before it. Only the thread that has the seat uses
+    /// this; the lock of the hub orders the exit of one seat and the start that gives the next.
+    values: AtomicU64,
+}
 
 impl Process {
     /// Its seat made no call since the hub is watched. A call from before may still run.
     const UNKNOWN: u8 = 0;
     const IDLE: u8 = 1;
     const CALLING: u8 = 2;
+    /// Its seat was dropped. It may have been started again since, but its new seat made no call.
     const EXITED: u8 = 3;
 
     fn new() -> Process {
-        Process(AtomicU8::new(Process::UNKNOWN))
+        Process {
+            state: AtomicU8::new(Process::UNKNOWN),
+            values: AtomicU64::new(0),
+        }
     }
 
     /// Begins a call of the thread that has the seat.
     fn begin(&self) {
-        while self.0.swap(Process::CALLING, Ordering::SeqCst) == Process::CALLING {
-            thread::yield_now(); // another thread closes a port as this process
+        while self.state.swap(Process::CALLING, Ordering::SeqCst) == Process::CALLING {
+            thread::yield_now(); // another thread closes a port as this process, or drops its seat from before
         }
     }
 
@@ -85,13 +102,13 @@ impl Process {
     fn try_begin(&self) -> bool {
         let order = Ordering::SeqCst;
         let was_idle = self
-            .0
+            .state
             .compare_exchange(Process::IDLE, Process::CALLING, order, order);
         was_idle.is_ok()
     }
 
     fn end(&self, next: u8) {
-        self.0.store(next, Ordering::SeqCst);
+        self.state.store(next, Ordering::SeqCst);
     }
 }
 
@@ -237,12 +254,13 @@ pub struct Hub(Arc<Raw>);
 ///
 /// A seat goes from thread to thread, but no two threads can use it at the same time, so only one thread at a time calls as the
 /// process. Dropping the seat exits the process, and so does a panic that unwinds the thread that owns it. Once a process has
-/// exited, a deadlock among the others can be reported.
+/// exited, a deadlock among the others can be reported. In a hub of [`Edition::Three`], [`start`](Seat::start) then returns a new seat
+/// of the process.
 pub struct Seat {
     hub: Hub,
     pid: u8,
-    /// How many values the process has given to tables. Being a `Cell`, it keeps two threads from using a seat at the same time.
-    values: Cell<u64>,
+    /// Keeps two threads from using a seat at the same time.
+    _not_sync: PhantomData<Cell<()>>,
 }
 
 // A seat has no state that a panic could leave broken.
@@ -499,14 +517,17 @@ impl Hub {
             abandoned: Abandoned::default(),
             _handler: handler,
         }));
-        let seats = (0..procs)
-            .map(|pid| Seat {
-                hub: hub.clone(),
-                pid,
-                values: Cell::new(0),
-            })
-            .collect();
+        let seats = (0..procs).map(|pid| hub.seat(pid)).collect();
         (hub, seats)
+    }
+
+    /// Returns a seat of a process that has none.
+    fn seat(&self, pid: u8) -> Seat {
+        Seat {
+            hub: self.clone(),
+            pid,
+            _not_sync: PhantomData,
+        }
     }
 
     /// Returns how many more steps other than exits the hub makes, by all its processes, before it refuses them with
@@ -727,8 +748,9 @@ impl Seat {
     /// Returns the number of the next value that the process gives to a table. It depends on nothing but the process and its own count,
     /// so a run that is followed sends the same numbers.
     pub(crate) fn next_number(&self) -> u64 {
-        let count = self.values.get() + 1;
-        self.values.set(count);
+        let values = &self.hub.0.process(self.pid).values;
+        let count = values.load(Ordering::Relaxed) + 1;
+        values.store(count, Ordering::Relaxed);
         100 * count + u64::from(self.pid)
     }
 
@@ -787,6 +809,10 @@ impl Seat {
 
     pub(crate) fn close(&self, port: u16) -> Result<(), Fault> {
         done(self.hub.0.close(self.pid, port))
+    }
+
+    fn reopen(&self, port: u16, cap: u32) -> Result<(), Fault> {
+        done(self.call(|hub, pid| unsafe { sys::chanhub_reopen(hub, pid, port.into(), cap) }))
     }
 
     #[inline]
@@ -910,6 +936,37 @@ impl Seat {
         Ok(())
     }
 
+    /// Starts another process again, which has exited, and returns a new seat of it.
+    ///
+    /// As with [`Hub::open`], drop the seat if no thread uses it: as long as you keep it, no deadlock among the other processes is
+    /// reported.
+    ///
+    /// # Examples
+    ///
+    /// ```
+    /// use chanhub::{Edition, Fault, Hub};
+    ///
+    /// let (_hub, mut seats) = Hub::open(Edition::Three, 2, 100).unwrap();
+    /// let (mut worker, mut boss) = (seats.pop().unwrap(), seats.pop().unwrap());
+    /// let (results, from_worker) = boss.channel(2).unwrap();
+    /// for number in [4, 5] {
+    ///     results.send(&mut worker, number).unwrap();
+    ///     assert_eq!(boss.start(1).unwrap_err(), Fault::NOT_GONE);
+    ///     worker.exit();
+    ///     worker = boss.start(1).unwrap();
+    /// }
+    /// assert_eq!(from_worker.recv(&mut boss), Ok(4.into()));
+    /// ```
+    ///
+    /// # Errors
+    ///
+    /// Returns [`Fault::NOT_GONE`] if the process has not exited or does not exist, and [`Fault::BAD_CALL`] unless the hub has
+    /// [`Edition::Three`]. Returns another [`Fault`] if the hub refuses the call.
+    pub fn start(&mut self, other: u8) -> Result<Seat, Fault> {
+        done(self.call(|hub, pid| unsafe { sys::chanhub_start(hub, pid, other.into()) }))?;
+        Ok(self.hub.seat(other))
+    }
+
     /// Ends the waiting call of another process, which returns [`Ended::Cancelled`].
     ///
     /// # Errors
@@ -974,6 +1031,19 @@ impl Sender {
     pub fn close(&self, seat: &mut Seat) -> Result<(), Ended> {
         seat.is_mine(self.hub)?;
         Ok(seat.close(self.port)?)
+    }
+
+    /// Opens the channel again, which is closed and empty, with a buffer for up to `cap` values. All its senders and receivers work
+    /// again, so nobody should still use them for what the channel was.
+    ///
+    /// # Errors
+    ///
+    /// Returns [`Fault::IN_USE`] if the channel is open or holds a value, [`Fault::BAD_CAP`] if `cap` is above 1,024, and
+    /// [`Fault::BAD_CALL`] unless the hub has [`Edition::Three`]. Returns another [`Ended::Fault`] if the hub refuses the call. It
+    /// returns no other error.
+    pub fn reopen(&self, seat: &mut Seat, cap: u32) -> Result<(), Ended> {
+        seat.is_mine(self.hub)?;
+        Ok(seat.reopen(self.port, cap)?)
     }
 }
 

@@ -26,8 +26,9 @@
 //! assert_eq!(hub.look_at(&receiver).unwrap().received, 1);
 //! ```
 //!
-//! A call that fails returns an [`Ended`]. [`channel`](Seat::channel) and [`cancel`](Seat::cancel) return a plain [`Fault`]
-//! instead, and [`close`](Sender::close) returns no other error than [`Ended::Fault`]. The operator `?` converts a `Fault` into an `Ended`:
+//! A call that fails returns an [`Ended`]. [`channel`](Seat::channel), [`cancel`](Seat::cancel) and [`start`](Seat::start) return a plain
+//! [`Fault`] instead, and [`close`](Sender::close) and [`reopen`](Sender::reopen) return no other error than [`Ended::Fault`]. The operator
+//! `?` converts a `Fault` into an `Ended`:
 //!
 //! ```
 //! use chanhub::{Edition, Ended, Hub, Seat};
@@ -149,11 +150,12 @@
 //!
 //! # Limits
 //!
-//! - A hub has at most 64 processes, or 63 with timeouts, and 64 channels. A closed channel still counts.
+//! - A hub has at most 64 processes, or 63 with timeouts, and 64 channels. A closed channel still counts. In [`Edition::Three`] a
+//!   process that has exited can be [started](Seat::start) again, and a closed channel [opened](Sender::reopen) again.
 //! - A hub of [`Hub::open`] makes at most 1,000,000 steps, not counting exits. One of [`Hub::open_endless`] makes any number.
 //! - The capacity of a channel is at most 1,024.
-//! - A value is a `u64` or, in [`Edition::Two`], a byte string of at most 32 bytes. The channels of [`typed`] carry values of any
-//!   type, of which the hub has only numbers.
+//! - A value is a `u64` or, but for [`Edition::One`], a byte string of at most 32 bytes. The channels of [`typed`] carry values of
+//!   any type, of which the hub has only numbers.
 //! - A send or a receive takes 16 bytes of memory, in a hub that never ends only until it falls out with its chapter. A select takes
 //!   more for its cases, and so does a send of bytes.
 //!

@@ -155,6 +155,8 @@ extern "C" {
     pub fn chanhub_closes_with_ends(hub: *mut Chanhub, port: c_uint);
     pub fn chanhub_ends_gone(hub: *mut Chanhub, port: c_uint) -> bool;
     pub fn chanhub_exit(hub: *mut Chanhub, pid: c_uint) -> Told;
+    pub fn chanhub_start(hub: *mut Chanhub, pid: c_uint, other: c_uint) -> Told;
+    pub fn chanhub_reopen(hub: *mut Chanhub, pid: c_uint, port: c_uint, cap: u32) -> Told;
     pub fn chanhub_cancel(hub: *mut Chanhub, pid: c_uint, other: c_uint) -> Told;
     pub fn chanhub_cut(hub: *mut Chanhub) -> bool;
     pub fn chanhub_look(hub: *mut Chanhub, port: c_uint) -> Counts;

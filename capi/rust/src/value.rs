@@ -9,7 +9,7 @@ use std::fmt;
 pub enum Value {
     /// A number.
     Number(u64),
-    /// A byte string. It requires a hub of [`Edition::Two`](crate::Edition::Two).
+    /// A byte string. It requires a hub of another edition than [`Edition::One`](crate::Edition::One).
     Bytes(Bytes),
 }
 

@@ -229,6 +229,94 @@ fn a_call_that_waits_is_cancelled() {
 }
 
 #[test]
+fn a_process_that_has_exited_is_started_again() {
+    let (hub, mut seats) = Hub::open(Edition::Three, 2, 100).unwrap();
+    let (mut worker, mut boss) = (seats.pop().unwrap(), seats.pop().unwrap());
+    let (sender, receiver) = boss.channel(2).unwrap();
+    for other in [1, 0, 2, 255] {
+        assert_eq!(boss.start(other).unwrap_err(), Fault::NOT_GONE);
+    }
+    for _ in 0..2 {
+        let number = Table::new().put(&worker, "a thing"); // no table has the other one
+        sender.send(&mut worker, number).unwrap();
+        worker.exit();
+        worker = boss.start(1).unwrap();
+    }
+    assert_eq!(worker.pid(), 1);
+    assert_eq!(receiver.recv(&mut worker), Ok(101.into()));
+    assert_eq!(receiver.recv(&mut boss), Ok(201.into()));
+    drop(worker);
+    assert_eq!(receiver.recv(&mut boss), Err(Ended::Stalled));
+    assert_eq!(
+        hub.journal().unwrap().lines().skip(7).collect::<Vec<_>>(),
+        [
+            "1 send 1 101",
+            "1 exit",
+            "0 start 1",
+            "1 send 1 201",
+            "1 exit",
+            "0 start 1",
+            "1 recv 1",
+            "0 recv 1",
+            "1 exit",
+            "0 recv 1"
+        ]
+    );
+}
+
+#[test]
+fn a_closed_channel_is_opened_again() {
+    let (hub, mut seat) = one_seat(Edition::Three);
+    let (sender, receiver) = seat.channel(1).unwrap();
+    let in_use = Err(Ended::Fault(Fault::IN_USE));
+    assert_eq!(sender.reopen(&mut seat, 2), in_use);
+    sender.send(&mut seat, 1).unwrap();
+    sender.close(&mut seat).unwrap();
+    assert_eq!(sender.reopen(&mut seat, 2), in_use);
+    assert_eq!(receiver.recv(&mut seat), Ok(1.into()));
+    assert_eq!(receiver.recv(&mut seat), Err(Ended::Drained(0)));
+    let bad_cap = Err(Ended::Fault(Fault::BAD_CAP));
+    assert_eq!(sender.reopen(&mut seat, 1025), bad_cap);
+    assert_eq!(sender.reopen(&mut seat, 2), Ok(()));
+    sender.send(&mut seat, 2).unwrap();
+    sender.send(&mut seat, 3).unwrap();
+    assert_eq!(
+        hub.look_at(&receiver),
+        Some(Counts {
+            cap: 2,
+            sent: 3,
+            received: 1,
+            closed: false
+        })
+    );
+    assert_eq!(receiver.recv(&mut seat), Ok(2.into()));
+    assert_eq!(receiver.recv(&mut seat), Ok(3.into()));
+    let (_other, mut stranger) = one_seat(Edition::Three);
+    let bad_call = Err(Ended::Fault(Fault::BAD_CALL));
+    assert_eq!(sender.reopen(&mut stranger, 1), bad_call);
+}
+
+#[test]
+fn only_edition_three_brings_back() {
+    for edition in [Edition::One, Edition::Two] {
+        let (_hub, mut seat) = one_seat(edition);
+        let (sender, _) = seat.channel(0).unwrap();
+        assert_eq!(seat.start(0).unwrap_err(), Fault::BAD_CALL);
+        sender.close(&mut seat).unwrap();
+        let bad_call = Err(Ended::Fault(Fault::BAD_CALL));
+        assert_eq!(sender.reopen(&mut seat, 0), bad_call);
+    }
+}
+
+#[test]
+fn nobody_cancels_or_starts_the_clock() {
+    let builder = Hub::builder(1).edition(Edition::Three).timeouts();
+    let (_hub, mut seats) = builder.open().unwrap();
+    assert_eq!(seats[0].cancel(1), Err(Fault::NO_PROCESS));
+    assert_eq!(seats[0].start(1).unwrap_err(), Fault::NO_PROCESS);
+}
+
+#[test]
 fn a_hub_tells_how_many_steps_are_left() {
     let (hub, mut seats) = Hub::open(Edition::One, 2, 3).unwrap();
     assert_eq!(hub.steps_left(), Some(3));

@@ -23,10 +23,12 @@ fn faults_say_what_their_numbers_mean() {
         "fault 10: the hub has reached its step limit",
         "fault 11: out of memory",
         "fault 12: the process has no waiting call to cancel",
-        "fault 13: a channel of another hub, more than 16 cases, a call that needs edition 2 or timeouts, or a cut of a hub that ends",
+        "fault 13: a channel of another hub, more than 16 cases, a call that needs another edition or timeouts, or a cut of a hub that ends",
         "fault 14: the journal that the hub follows has another step here",
         "fault 15: other steps come first in the journal that the hub follows",
-        "fault 16: a number that chanhub.h does not define",
+        "fault 16: the port is in use",
+        "fault 17: the process has not exited",
+        "fault 18: a number that chanhub.h does not define",
     ];
     for (number, said) in (1..).zip(said) {
         assert_eq!(Fault(number).to_string(), said);
@@ -89,6 +91,8 @@ fn faults_are_numbered_as_in_the_header() {
         ("BAD_CALL", Fault::BAD_CALL),
         ("DIVERGED", Fault::DIVERGED),
         ("NOT_YET", Fault::NOT_YET),
+        ("IN_USE", Fault::IN_USE),
+        ("NOT_GONE", Fault::NOT_GONE),
     ];
     assert_eq!(reasons.len(), named.len());
     for (reason, (name, fault)) in reasons.iter().zip(named) {

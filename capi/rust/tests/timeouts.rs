@@ -236,7 +236,7 @@ fn a_builder_refuses_what_no_hub_has() {
         assert_eq!(refused(endless), Some(OpenError::Keep));
     }
     let text = OpenError::Edition.to_string();
-    assert_eq!(text, "timeouts need edition 2");
+    assert_eq!(text, "timeouts need edition 2 or 3");
 }
 
 #[test]

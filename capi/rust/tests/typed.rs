@@ -324,6 +324,31 @@ fn a_process_that_has_exited_closes_nothing() {
 }
 
 #[test]
+fn a_process_is_started_again_while_its_seat_from_before_is_dropped() {
+    let (_hub, mut seats) =
+        Hub::open_endless(Edition::Three, 2, 1000, Chapters::discard()).unwrap();
+    let (mut worker, mut boss) = (seats.pop().unwrap(), seats.pop().unwrap());
+    let (sender, receiver) = channel(&boss, 1).unwrap();
+    for round in 0..300 {
+        let sender = sender.clone();
+        let thread = thread::spawn(move || {
+            sender.bind(&worker).send(round).unwrap();
+        });
+        worker = loop {
+            match boss.start(1) {
+                Ok(seat) => break seat,
+                Err(fault) => assert_eq!(fault, Fault::NOT_GONE),
+            }
+            thread::yield_now();
+        };
+        assert_eq!(receiver.clone().bind(&worker).recv(), Ok(round));
+        thread.join().unwrap();
+    }
+    drop(sender);
+    assert_eq!(receiver.bind(&boss).recv(), Err(Ended::Drained(0)));
+}
+
+#[test]
 fn a_process_that_waits_since_before_the_first_channel_closes_nothing() {
     let (hub, [mut waits, makes]) = seats();
     let (_, numbers) = waits.channel(0).unwrap();

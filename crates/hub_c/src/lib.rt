@@ -7,7 +7,7 @@
 
 ghost use Rattle.std.specs.Prelude.{◌≡◌, None, Some};
 ghost use Rattle.hub_base.specs.Lines.{by};
-ghost use Rattle.hub_base.specs.Notation.{cancel, close, exit, make, recv};
+ghost use Rattle.hub_base.specs.Notation.{cancel, close, exit, make, recv, reopen, start};
 ghost use Rattle.hub_session.specs.Cuts.{Cuts, LetsGo};
 ghost use Rattle.hub_session.specs.Looks.{Looks, ReadsPiece, Stays, asked_of, before_of, clock_number, entries_of, given_of, next_bits, next_step, present_of, waiting_of};
 ghost use Rattle.hub_session.specs.Pieces.{Reads, only_line};
@@ -22,7 +22,7 @@ use hub_session::{
 };
 use std::alloc::Global;
 
-/// Opens a hub of this edition, 1 or 2, of 1 to `MOST_PROCS` processes, whose journal may hold 1 to `MOST_STEPS` steps, as
+/// Opens a hub of this edition, 1 to 3, of 1 to `MOST_PROCS` processes, whose journal may hold 1 to `MOST_STEPS` steps, as
 /// `limit` says. Answers 0, or what refuses it: 1 the processes, 2 the limit, 3 memory, 4 the edition. A hub that was held
 /// before ends.
 #[unsafe(no_mangle)]
@@ -189,6 +189,30 @@ pub extern "C" fn hub_c_cancel(alloc: Global, hub: &mut HubC, pid: u8, other: u8
     ensures { Steps hub.old.session (Some (cancel pid other)) hub.new.session told.new }
 {
     plain(alloc, hub, pid, Step::Cancel(Pid(other)), told);
+}
+
+/// Starts another process again, which has exited.
+#[unsafe(no_mangle)]
+pub extern "C" fn hub_c_start(alloc: Global, hub: &mut HubC, pid: u8, other: u8, told: &mut ToldC)
+    ensures { Steps hub.old.session (Some (start pid other)) hub.new.session told.new }
+{
+    plain(alloc, hub, pid, Step::Start(Pid(other)), told);
+}
+
+/// Opens a port again, which is closed and drained, with this capacity.
+#[unsafe(no_mangle)]
+pub extern "C" fn hub_c_reopen(
+    alloc: Global,
+    hub: &mut HubC,
+    pid: u8,
+    port: u16,
+    cap: u32,
+    told: &mut ToldC,
+)
+    ensures { Steps hub.old.session (Some (reopen pid port cap)) hub.new.session told.new }
+{
+    let port = Port(port);
+    plain(alloc, hub, pid, Step::Reopen { port, cap }, told);
 }
 
 /// Takes the answer that waits for a process. `what` is 0 where none waits.

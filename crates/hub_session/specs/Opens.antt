@@ -1,7 +1,7 @@
 -- What an opening leaves, and when it is refused.
 use Rattle.std.specs.Prelude.{◌≡◌, ◌<◌, ◌==◌, ℕ, Bool, true, false, List, [], Option, None, Some, if◌then◌else◌}
 use Rattle.hub_base.specs.declared.head.Edition.{Edition}
-use Rattle.hub_base.specs.declared.head.Edition.TheVariants.{One, Two}
+use Rattle.hub_base.specs.declared.head.Edition.TheVariants.{One, Two, Three}
 use Rattle.hub_base.specs.Head.{IsHead, head_of}
 use Rattle.hub_core.specs.HubView.{IsLimit, RefusesOpening, opened_hub, terms_of}
 use Rattle.hub_core.specs.declared.opening.OpenFault.{OpenFault}
@@ -24,7 +24,7 @@ use Rattle.hub_session.specs.Tells.{follow_refused}
 
 -- the edition of this number
 abbrev pub edition_of : ℕ → Option Edition
-edition_of n = if n == 1 then Some One else if n == 2 then Some Two else None
+edition_of n = if n == 1 then Some One else if n == 2 then Some Two else if n == 3 then Some Three else None
 
 -- this hub, and no chapter that waits
 pub record IsAnew (hub : Opened) (hands_out : Bool) (s : Session) : Type 0 where

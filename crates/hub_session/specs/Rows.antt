@@ -2,7 +2,7 @@
 use Rattle.std.specs.Prelude.{◌≡◌, true, false, [], ◌∷◌, replicate, None, Some, Ok, Err, refl}
 use Rattle.hub_base.specs.declared.event.Outcome.TheVariants.{Drained}
 use Rattle.hub_base.specs.declared.fault.Fault.TheVariants.{Busy}
-use Rattle.hub_base.specs.declared.head.Edition.TheVariants.{Two}
+use Rattle.hub_base.specs.declared.head.Edition.TheVariants.{Three}
 use Rattle.hub_base.specs.Journal.{JournalView}
 use Rattle.hub_base.specs.Lines.{line}
 use Rattle.hub_base.specs.Notation.{cancel, case, close, exit, faulted, made, make, procs_two, r, recv, s, select, told}
@@ -44,10 +44,10 @@ long_row = refl
 pub many_row : call_of 5 (replicate 17 receives) 0 0 ≡ None
 many_row = refl
 
-pub edition_row : edition_of 2 ≡ Some Two
+pub edition_row : edition_of 3 ≡ Some Three
 edition_row = refl
 
-pub no_edition_row : edition_of 3 ≡ None
+pub no_edition_row : edition_of 4 ≡ None
 no_edition_row = refl
 
 -- ---- what is told

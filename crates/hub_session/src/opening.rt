@@ -39,6 +39,7 @@ fn edition_of(number: u8) -> Option<Edition>
     match number {
         1 => Some(Edition::One),
         2 => Some(Edition::Two),
+        3 => Some(Edition::Three),
         _ => None,
     }
 }
@@ -94,7 +95,7 @@ fn open_endless_session(
     }
 }
 
-/// A hub on the heap at which nothing has happened: of this edition, 1 or 2, of 1 to `MOST_PROCS` processes, whose journal may
+/// A hub on the heap at which nothing has happened: of this edition, 1 to 3, of 1 to `MOST_PROCS` processes, whose journal may
 /// hold 1 to `MOST_STEPS` steps, as `limit` says. `Err` has the number of what refuses it: 1 the processes, 2 the limit, 3 memory,
 /// 4 the edition.
 #[inline(never)]

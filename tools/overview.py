@@ -109,6 +109,9 @@ class Overview:
             self.stalls.append(self.count)
         if words[0] == "made":
             self.ports.append(Port(step.asked))
+        if words == ["done"] and step.word == "reopen":
+            port, room = step.asked
+            self.ports[port - 1].room = max(self.ports[port - 1].room, room)
         if words[0] != "case" or words[2] not in ("sent", "got"):
             return set()
         port = step.cases[int(words[1])][1]

@@ -19,7 +19,7 @@ BEFORE = ["head.html", "style.css", "body.html"]
 BETWEEN = ["story.html"]
 SCRIPTS = ["data.js", "view.js", "paint.js", "panel.js", "main.js"]
 AFTER = ["scripts.html", *SCRIPTS, "end.html"]
-LETTERS = {"make": "m", "send": "s", "recv": "r", "select": "?", "close": "c", "cancel": "x", "exit": "e"}
+LETTERS = {"make": "m", "send": "s", "recv": "r", "select": "?", "close": "c", "reopen": "o", "cancel": "x", "start": "g", "exit": "e"}
 BLOCK = 64  # steps
 ENDS = {"sent": "s", "got": "g", "drained": "d", "closed": "c", "default": "D", "done": "k", "stalled": "S", "cancelled": "x"}
 
@@ -34,7 +34,7 @@ class Step:
 
 
 class Port:
-    """How many values it holds; who moved values last, and who received any; and of values that one end is told of only, the steps of the
+    """How many values it holds; who moved values last, and who received any since it was opened last; and of values that one end is told of only, the steps of the
     sends, or of receives."""
 
     def __init__(self):
@@ -114,17 +114,17 @@ class Data:
 
     def line(self, place, line):
         pid, word, *more = line.split(" ")
-        entry = pid + LETTERS[word] + (":" if word == "send" else "").join("!" if part == "default" else part for part in more)
+        entry = pid + LETTERS[word] + (":" if word in ("send", "reopen") else "").join("!" if part == "default" else part for part in more)
         word, asked = model.step([word, *more])
         own = Step(place, int(pid), asked[0] if word == "call" else ())
         self.sketch.asked[self.lane(own)] += 1
         self.hub.step(own.pid, word, asked)
         events, self.hub.events = self.hub.events, []
         items, stalled = [], []
-        if word in ("make", "exit"):
+        if word in ("make", "reopen", "start", "exit"):
             self.told.add(place)
-        if word == "exit" and events[0].endswith(" done"):
-            self.exited.add(own.pid)
+        if events[0].endswith(" done"):
+            self.turn(own.pid, word, asked)
         for number, event in enumerate(events):
             pid, *words = event.split(" ")
             step = self.waiting.pop(int(pid)) if number else own
@@ -142,6 +142,15 @@ class Data:
         for number in {item.port for item in items if isinstance(item, Move)}:
             self.sketch.most[number] = max(self.sketch.most[number], self.ports[number].count)
         return entry + "".join(self.text(place, item) for item in items) + "".join(self.stalls(place, stalled)) + "\n"
+
+    def turn(self, pid, word, asked):
+        """A step was done by which a process has left, or is there again, or by which a port is open again and nobody has received there."""
+        if word == "exit":
+            self.exited.add(pid)
+        elif word == "start":
+            self.exited.remove(asked)
+        elif word == "reopen":
+            self.ports[asked[0]].receivers = set()
 
     def end(self, place, step, words):
         """How a step ended, and the value that moved so."""

@@ -42,7 +42,7 @@ ROOT = pathlib.Path(__file__).resolve().parent.parent
 RANDOM = 50
 BLOCK, NEVER = 64, 0xffffffff  # steps; no step
 MOST_BYTES = 60
-VIEWER_LINES, VIEWER_WIDTH = 600, 160
+VIEWER_LINES, VIEWER_WIDTH = 620, 160
 # a million steps: seconds of the processor until they are open, and for a view of them
 MILLION, MOST_OPENING, MOST_VIEW = 1000000, 1.5, 0.25
 LONG = [(101, 3000), (102, 3000), (103, 2000)]  # seeds of longer journals, and how many steps they have
@@ -203,7 +203,7 @@ class Part(picture.Journal):
         self.window, self.told = range(blocks[0], blocks[-1] + 1), set(blocks)
         for one in super().asked():
             by = one.ended.by if one.ended else NEVER
-            if one.place < self.window.start <= by or one.line.split()[1] in ("make", "exit"):
+            if one.place < self.window.start <= by or one.line.split()[1] in ("make", "reopen", "start", "exit"):
                 self.told.add(one.place)
             if one.ended and (words_of(one) == "stalled" or by >= self.window.start and one.place < self.window.stop):
                 self.told.add(by)
@@ -239,7 +239,7 @@ def label_of(asked):
     case = picture.shown_case(line, asked.cases, end) if asked.cases else None
     if case:
         return case[0] + case[1]
-    return {"make": "m" + end[5:], "select": "def" if end == "default" else "?", "exit": "exit"}.get(line[1]) or {"close": "c", "cancel": "x"}[line[1]] + line[2]
+    return {"make": "m" + end[5:], "select": "def" if end == "default" else "?", "exit": "exit"}.get(line[1]) or {"close": "c", "reopen": "o", "cancel": "x", "start": "g"}[line[1]] + line[2]
 
 
 def value_of(asked):
@@ -375,8 +375,9 @@ def last_cells(journal, by):
         sent, got = ([place for place, step, _ in journal.moved[side][int(port)] if step <= by] for side in "sr")
         movers = [f"P{pid_at(journal, places[-1])}, step {places[-1] + 1}" if places and is_told(journal, places[-1])
             else f"step {places[-1] + 1} (not told)" if places else "nobody" for places in (sent, got)]
-        left = {pid for pid, step in journal.exited.items() if step <= by}
-        is_gone = ("s", port) in cases and set() < {pid_at(journal, place) for place in got} <= left
+        opened = max((step for step in journal.reopened[int(port)] if step <= by), default=-1)
+        receivers = {pid_at(journal, place) for place, step, _ in journal.moved["r"][int(port)] if opened < step <= by}
+        is_gone = ("s", port) in cases and set() < receivers <= journal.left(by)
         yield from [port, movers[0], movers[1] + ("; all who received there have left" if is_gone else "")]
 
 
@@ -749,8 +750,8 @@ def check_waiting(browser, journal):
         assert runs in wanted, f"column {x}: {runs} and not {wanted}"
 
 
-def check_random(browser, count, work, seed):
-    text = RandomJournal(seed, 0).text()
+def check_random(browser, count, work, seed, third=False):
+    text = RandomJournal(seed, 0, third).text()
     journal = picture.Journal(text.encode())
     open_page(browser, text, work / "random.html")
     draw, total = random.Random(seed).randrange, len(journal.lines)
@@ -1108,7 +1109,7 @@ def check_sketches(text, journal):
 def check_data(browser, journal):
     """What the page sums up: before each block, and of the whole."""
     asked, count = journal.asked(), len(journal.lines)
-    tables, whole = ["waited", "asked", "troubles", "open", "sent", "got", "most"], ["rooms", "exits", "stalls", "waits", "asks"]
+    tables, whole = ["waited", "asked", "troubles", "open", "sent", "got", "most"], ["rooms", "lives", "stalls", "waits", "asks"]
     told = browser.value("Object.fromEntries(%s.map((name) => [name, [...page.journal[name]]]))" % json.dumps([*tables, *whole]))
     lanes, width = journal.procs + 1, 1 + sum(words_of(one).startswith("made") for one in asked)
     for at, until in some(list(enumerate([0, *(until for _, until in blocks_of(count))]))):
@@ -1130,7 +1131,8 @@ def check_data(browser, journal):
             most = most_held(journal, port, first, until)
             assert told["most"][(at + 1) * width + port] == most, f"port {port} from step {first + 1} on: {most}"
     assert told["rooms"] == [journal.room[port] if port in held_in else 0 for port in range(1, width)], told["rooms"]
-    assert told["exits"][: journal.procs] == [journal.exited.get(pid) for pid in range(journal.procs)], told["exits"]
+    lives = [[[life["begun"], life["exited"]] for life in own] for own in told["lives"]]
+    assert lives[: journal.procs] == [journal.lives[pid] for pid in range(journal.procs)], lives
     assert told["stalls"] == sorted({by for by, _, _ in journal.stalls}), told["stalls"]
     waits, asks = collections.Counter(), collections.Counter(lane_of(journal, one) for one in asked)
     for one in asked:
@@ -1190,7 +1192,7 @@ def found(browser, *several):
 
 def check_search(browser, journal):
     asked = journal.asked()
-    port_of = lambda one: {int(port) for _, port in one.cases} | ({int(one.line.split()[2])} if one.line.split()[1] == "close" else set()) | ({int(words_of(one)[5:])} if words_of(one).startswith("made") else set())
+    port_of = lambda one: {int(port) for _, port in one.cases} | ({int(one.line.split()[2])} if one.line.split()[1] in ("close", "reopen") else set()) | ({int(words_of(one)[5:])} if words_of(one).startswith("made") else set())
     values = [value_of(one) for one in asked if value_of(one)]
     value = values[len(values) // 2] if values else "17"
     stalling = {by for by, _, _ in journal.stalls}
@@ -1838,6 +1840,7 @@ def main():
         browser.ask("Page.addScriptToEvaluateOnNewDocument", source=RECORDER)
         for seed in range(1, int(words[0]) + 1 if words else RANDOM + 1):
             check_random(browser, count, work, seed)
+            check_random(browser, count, work, seed, third=True)
         for seed, total in LONG:
             check_long(browser, count, work, seed, total)
         count.run("views from afar", lambda: check_columns(browser, count, work))

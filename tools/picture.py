@@ -73,8 +73,9 @@ class Journal:
         self.procs = int(text.decode().splitlines()[1].split()[1])
         self.lines = text.decode().splitlines()[2:]
         self.ended = {}
-        self.exited = {}
+        self.lives = {pid: [[None, None]] for pid in range(self.procs)}
         self.room = {}
+        self.reopened = collections.defaultdict(list)
         self.stalls = []
         self.moved = {"s": collections.defaultdict(list), "r": collections.defaultdict(list)}
         events = model.events_of(text.decode())
@@ -98,18 +99,28 @@ class Journal:
         if what == "stalled":
             self.stalls.append((by, int(pid), asked))
         fields = self.lines[asked].split()
-        if what.startswith("made ") and int(fields[2]) > 0:
+        if what.startswith("made "):
             self.room[int(what.split()[1])] = int(fields[2])
         if what == "done" and fields[1] == "exit":
-            self.exited[int(pid)] = by
+            self.lives[int(pid)][-1][1] = by
+        if what == "done" and fields[1] == "start":
+            self.lives[int(fields[2])].append([by, None])
+        if what == "done" and fields[1] == "reopen":
+            self.reopened[int(fields[2])].append(by)
+            self.room[int(fields[2])] = max(self.room[int(fields[2])], int(fields[3]))
         match = re.fullmatch(r"case (\d+) (sent|got .*)", what)
         if match:
             side, port = cases_of(self.lines[asked])[int(match[1])]
             self.moved[side][int(port)].append((asked, by, event))
 
+    def left(self, step=float("inf")):
+        """Who has left by then."""
+        now = {pid: [life for life in own if life[0] is None or life[0] <= step][-1] for pid, own in self.lives.items()}
+        return {pid for pid, (_, exited) in now.items() if exited is not None and exited <= step}
+
     def levels(self):
         """For each port that has room, in order, its values from each step at which one moves until the next such step."""
-        for port in self.room:
+        for port in filter(self.room.get, self.room):
             ways = [sorted(by for _, by, _ in self.moved[side][port]) for side in "sr"]
             steps = sorted(set(ways[0] + ways[1]))
             for step, until in zip(steps, [*steps[1:], None]):
@@ -223,11 +234,13 @@ MARKS = {
     "receives": is_side("r"),
     "makes a port": lambda line, cases, end: end.startswith("made"),
     "closes a port": lambda line, cases, end: line[1] == "close" and end == "done",
+    "reopens a port": lambda line, cases, end: line[1] == "reopen" and end == "done",
     "no case fired": lambda line, cases, end: line[1] == "select"
     and len(cases) != 1
     and end.split(" ")[0] not in ("case", "default", "fault"),
     "default taken": lambda line, cases, end: end == "default",
     "cancels a call": lambda line, cases, end: line[1] == "cancel" and end == "done",
+    "starts a process": lambda line, cases, end: line[1] == "start" and end == "done",
     "refused: fault 3": lambda line, cases, end: end.startswith("fault"),
     "still waits": lambda line, cases, end: end == "",
     "closed and empty": lambda line, cases, end: end.endswith("drained"),
@@ -262,8 +275,9 @@ def waits(journal, bands):
             moved = [mover(journal.moved[way][int(port)], step) for way in "sr"]
             pid = int(journal.lines[asked].split()[0])
             other = whom(journal, step, (side, port), pid, *moved)
-            receivers = {int(event.split()[0]) for _, by, event in journal.moved["r"][int(port)] if by <= step}
-            gone = side == "s" and set() < receivers <= {one for one, by in journal.exited.items() if by <= step}
+            opened = max((by for by in journal.reopened[int(port)] if by <= step), default=-1)
+            receivers = {int(event.split()[0]) for _, by, event in journal.moved["r"][int(port)] if opened < by <= step}
+            gone = side == "s" and set() < receivers <= journal.left(step)
             row = (
                 f"P{pid} has waited since step {asked + 1} to {aim} port {port}; "
                 f"last sent there by {mover_words(moved[0])}, last received by {mover_words(moved[1])}"
@@ -282,11 +296,11 @@ def vain(journal, bands):
 
 
 def outside(journal, bands):
-    """A row for each process that has neither exited nor waits in the end, where calls wait then, and that is shown."""
+    """A row for each process that is there in the end and does not wait, where calls wait then, and that is shown."""
     waiting = {int(asked.line.split()[0]) for asked in journal.asked() if asked.ended is None}
     last = {int(line.split()[0]): f"last at step {place + 1}" for place, line in enumerate(journal.lines)}
     if waiting and bands.end >= len(journal.lines):
-        for pid in sorted({*range(journal.procs)} - waiting - {*journal.exited}):
+        for pid in sorted({*range(journal.procs)} - waiting - journal.left()):
             yield f"P{pid} is outside the hub, {last.get(pid, 'never called')}."
 
 
@@ -374,18 +388,19 @@ def column(place, band, bands, columns, edges):
 
 
 def lanes_agree(root, journal, bands):
-    """Each lane goes from the left edge of its band to the column of the exit of its process, or to the right edge; a process that
-    exited before the band has none there, and no name."""
+    """Each lane goes from the left edge of its band, or from the column of the step that started its process again, to the column of
+    the exit of its process, or to the right edge; a process that is not there has none, and no name."""
     lanes = [numbers(path) for path in root.iter(SVG + "path") if path.get("class") == "lane"]
     columns, wanted, names = columns_of(root), [], []
     for band in range(bands.count):
         first = bands.first + band * bands.steps
         edges = 60, 60 + 2 * bands.half * (min(bands.end, first + bands.steps) - first)
-        for pid in range(journal.procs):
-            exited = journal.exited.get(pid)
-            if exited is None or exited >= first:
+        end = min(bands.end, first + bands.steps)
+        for pid, begun, exited in ((pid, *life) for pid in range(journal.procs) for life in journal.lives[pid]):
+            if (exited is None or exited >= first) and (begun is None or begun < end):
                 y = bands.y(band, pid, journal)
-                wanted.append([edges[0], y, column(exited, band, bands, columns, edges), y])
+                begin = edges[0] if begun is None else column(begun, band, bands, columns, edges)
+                wanted.append([begin, y, column(exited, band, bands, columns, edges), y])
                 names.append(f"P{pid}")
     assert lanes == wanted, f"lanes: {lanes} and not {wanted}"
     told = [name.text for name in root.findall(SVG + "text") if name.get("class") == "name"]
@@ -458,7 +473,7 @@ def marks_agree(root, journal):
         entry = asked[int(title.split()[1]) - 1]
         line, end = entry.line.split(), entry.ended.event.split(" ", 1)[1] if entry.ended else ""
         case = shown_case(line, entry.cases, end) if entry.cases else None
-        port = case[1] if case else end.split()[1] if end.startswith("made") else line[2] if line[1] == "close" else None
+        port = case[1] if case else end.split()[1] if end.startswith("made") else line[2] if line[1] in ("close", "reopen") else None
         port = None if end.startswith("fault") else port
         marks = [mark.get("href") for mark in group.findall(SVG + "use")]
         assert marks == ([] if port is None else [f"#k{int(port) % HUES}"]), f"{title}: {marks}"
@@ -793,9 +808,9 @@ def main():
     documents = sorted((ROOT / "docs" / "pictures").glob("*.journal"))
     for path in examples:
         check_journal(count, program, path.name, path.read_bytes())
-    for seed in range(1, RANDOM + 1):
-        text = random_journal.Journal(seed, 0).text().encode()
-        check_journal(count, program, f"random journal {seed}", text, seed <= WINDOWED)
+    for seed, third in ((seed, third) for third in (False, True) for seed in range(1, RANDOM + 1)):
+        text = random_journal.Journal(seed, 0, third).text().encode()
+        check_journal(count, program, f"random journal {seed}{' of the third edition' * third}", text, seed <= WINDOWED)
     for path in documents:
         check_document(count, program, path)
         check_journal(count, program, path.name, path.read_bytes())

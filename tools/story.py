@@ -120,13 +120,14 @@ def table(name):
 
 
 def journals(work):
-    """Each example, and random journals of both editions; and whether they are told by windows too."""
+    """Each example, and random journals of each edition; and whether they are told by windows too."""
     for path in sorted((ROOT / "examples" / "journals").iterdir()):
         if not path.suffix:
             yield path.name, path.read_text(), True
-    subprocess.run([ROOT / "tools" / "random_journal.py", "1", str(RANDOM_JOURNALS), work], check=True)
-    for seed in range(1, RANDOM_JOURNALS + 1):
-        yield f"random journal {seed}", (pathlib.Path(work) / f"journal_{seed}").read_text(), seed <= WINDOWED
+    for third, name in ([], "random journal"), (["--third"], "random journal of the third edition"):
+        subprocess.run([ROOT / "tools" / "random_journal.py", *third, "1", str(RANDOM_JOURNALS), work], check=True)
+        for seed in range(1, RANDOM_JOURNALS + 1):
+            yield f"{name} {seed}", (pathlib.Path(work) / f"journal_{seed}").read_text(), seed <= WINDOWED
 
 
 def with_clock(journal, draw):

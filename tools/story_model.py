@@ -14,7 +14,8 @@ import model
 
 FAULTS = ["no such process", "the process has exited", "the process still waits in a call", "too many cases", "no such port",
           "the capacity is too large", "too many ports", "close of the nil port", "close of a closed port",
-          "the journal is full", "out of memory", "that process does not wait"]
+          "the journal is full", "out of memory", "that process does not wait", None, None, None, "the port is in use",
+          "that process has not exited"]
 HEADING = "   step  who asks what                  answer            waited              partner or reason     what else it does"
 NO_COLOUR = "\x1b[0m"
 LONGEST = 5  # how many of the longest waits are told
@@ -47,7 +48,7 @@ class Port:
     """What a port carried so far."""
 
     def __init__(self, maker):
-        self.maker = maker
+        self.maker = self.opener = maker  # the opener made it, or opened it again last
         self.closer = None
         self.sent = self.received = 0
         self.most = 0  # how many values were in it at most after a step
@@ -72,7 +73,7 @@ class Story:
         self.entries = [Entry(line) for line in lines]
         self.ports = []
         self.waiting = {}  # the place of each process's call that waits, by arrival
-        self.exits = []  # the places of the exits that were done
+        self.exits = []  # the places of the exits of those who have left
         self.procs = int(procs.split()[1])
         hub = model.Hub(int(head.split()[2]), self.procs)
         self.clock = clock_of(int(head.split()[2]), self.procs, lines)
@@ -114,8 +115,13 @@ class Story:
             self.ports.append(Port(place))
         elif words == "done" and entry.word == "exit":
             self.exits.append(place)
+        elif words == "done" and entry.word == "start":
+            self.exits = [exit for exit in self.exits if self.entries[exit].pid != entry.asked]
         elif words == "done" and entry.word == "close":
             self.ports[entry.asked - 1].closer = place
+        elif words == "done" and entry.word == "reopen":
+            port = self.ports[entry.asked[0] - 1]
+            port.opener, port.closer, port.receivers = place, None, set()
         elif moves(entry):
             self.move(place)
 
@@ -142,7 +148,7 @@ class Story:
             own.append(place)
 
     def leavers(self):
-        """Lines on the processes that have exited so far."""
+        """Lines on the processes that have exited so far, and were not started again."""
         for place in self.exits:
             yield f"          P{self.entries[place].pid} left at step {place + 1}"
 
@@ -158,7 +164,7 @@ class Story:
                 yield f"            to {what} port {case[1]}: last sent by {port.sender}, last received by {port.receiver}{gone}"
 
     def outside(self):
-        """A line on the processes that have neither exited nor wait in the end, if there are any."""
+        """A line on the processes that are there in the end and do not wait, if there are any."""
         last = {entry.pid: f"last at step {place + 1}" for place, entry in enumerate(self.entries)}
         inside = {self.clock, *self.waiting, *(self.entries[place].pid for place in self.exits)}
         told = [f"P{pid}, {last.get(pid, 'never called')}" for pid in range(self.procs) if pid not in inside]
@@ -199,11 +205,13 @@ class Story:
 
     def port_line(self, number):
         port = self.ports[number - 1]
-        maker = self.entries[port.maker]
+        maker, opener = self.entries[port.maker], self.entries[port.opener]
+        cap = maker.asked if opener is maker else opener.asked[1]
         counts = f"sent {port.sent} received {port.received} left {port.sent - port.received}"
         most = f" most {port.most} at step {port.fullest + 1}" if port.most else ""
+        reopened = "" if opener is maker else f" reopened by P{opener.pid} at step {port.opener + 1}"
         closed = "" if port.closer is None else f" closed by P{self.entries[port.closer].pid} at step {port.closer + 1}"
-        return f"port {number} cap {maker.asked} {counts}{most} made by P{maker.pid} at step {port.maker + 1}{closed}"
+        return f"port {number} cap {cap} {counts}{most} made by P{maker.pid} at step {port.maker + 1}{reopened}{closed}"
 
     def waits(self):
         """How many of the calls waited, and the lines of those that waited longest, the older of equal ones first; but not the
@@ -239,7 +247,7 @@ class Story:
 
 
 def clock_of(edition, procs, lines):
-    """The clock, which in edition 2 may be the last of several processes. It receives on port 0, and else only cancels and exits. It
+    """The clock, which from edition 2 on may be the last of several processes. It receives on port 0, and else only cancels and exits. It
     makes the first step, or more than one besides its exit."""
     own = [line.split(" ")[1:] for line in lines if int(line.split(" ")[0]) == procs - 1]
     waits = [words for words in own if words == ["recv", "0"] or words[0] == "select" and words[2:] == ["r0"]]

@@ -117,14 +117,6 @@ def faulty_journals(program, work):
         yield " ".join(words), folder.run(words) == refused("line 2: bad procs") and folder.left() == b"kept"
 
 
-def lives(program, work):
-    """A journal in which processes and ports may come back is shown in no form."""
-    folder = Folder(program, work, b"kept")
-    (folder.path / "journal").write_bytes(b"chanhub journal 3\nprocs 1\n0 make 1\n")
-    for words in (["story", "journal"], ["picture", "journal"], ["mermaid", "1", "journal"], ["trace", "journal", "-o", "out"], ["page", "journal"], ["story", "7", "journal"]):
-        yield " ".join(words) + " of the third edition", folder.run(words) == refused("a journal of the third edition is not shown") and folder.left() == b"kept"
-
-
 def chains(program, work):
     """A chain that is whole, and chains that break; standard input holds the second chapter."""
     path = pathlib.Path(work) / "chapters"
@@ -217,7 +209,7 @@ def refused_allocations(program, work):
 
 
 def main():
-    parts = told, written, pictures, viewers, not_written, faulty_journals, lives, chains, explorations, help_texts, versions, little_stack, refused_allocations
+    parts = told, written, pictures, viewers, not_written, faulty_journals, chains, explorations, help_texts, versions, little_stack, refused_allocations
     return count(Program(sys.argv[1]), *parts)
 
 

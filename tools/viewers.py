@@ -52,7 +52,10 @@ class Journal:
                 yield Told(place, by, int(pid), words)
 
     def room(self, port):
-        return int(self.steps[self.ports[port - 1]].split()[1])
+        """The most that it was made or opened again with."""
+        reopens = (self.read[told.asked] for told in self.told if told.words == "done")
+        again = [asked[1] for word, asked in reopens if word == "reopen" and asked[0] == port]
+        return max([int(self.steps[self.ports[port - 1]].split()[1]), *again])
 
     def move(self, told):
         """Side, port and value, where the event moved one."""
@@ -103,7 +106,9 @@ def diagram(journal, first, last):
 def arrow_or_note(journal, told, senders):
     moved = journal.move(told)
     if not moved:
-        return [f"Note over P{told.pid}: {told.by + 1}: {journal.steps[told.asked]}, {told.words}"]
+        word, asked = journal.read[told.asked]
+        started = f",P{asked}" if word == "start" and told.words == "done" else ""
+        return [f"Note over P{told.pid}{started}: {told.by + 1}: {journal.steps[told.asked]}, {told.words}"]
     side, port, value = moved
     if journal.room(port):
         ends = f"P{told.pid}-)port{port}" if side == "s" else f"port{port}-->>P{told.pid}"
@@ -123,8 +128,10 @@ def events_of(journal):
         kind = "wait" if end.by > place or end.words == "parked" else "step"
         yield {"ph": "X", "pid": 1, "tid": pid, "ts": place + 1, "dur": end.by - place + 1, "cat": kind, "name": journal.steps[place], "args": {"told": end.words}}
     for told in journal.told:
-        if told.words in ("stalled", "cancelled") or told.words == "done" and journal.steps[told.asked].startswith("close"):
-            yield {"ph": "i", "s": "t", "pid": 1, "tid": told.pid, "ts": told.by + 1, "name": f"{journal.steps[told.asked]}, {told.words}"}
+        word, asked = journal.read[told.asked]
+        if told.words in ("stalled", "cancelled") or told.words == "done" and word in ("close", "reopen", "start"):
+            process = asked if word == "start" else told.pid
+            yield {"ph": "i", "s": "t", "pid": 1, "tid": process, "ts": told.by + 1, "name": f"{journal.steps[told.asked]}, {told.words}"}
     numbers = collections.Counter()
     for passage in journal.passages():
         port = f"port {passage.port}"
@@ -146,7 +153,7 @@ def in_any_order(events):
 PARTICIPANT = re.compile(r"    participant (?P<id>[A-Za-z]+\d+)(?: as [^#;]+)?")
 TEXT = r": (?:[^#;]|#\d+;)+"
 ARROW = re.compile(r"    (?P<id>[A-Za-z]+\d+)(?:->>|-->>|-\))(?P<to>[A-Za-z]+\d+)" + TEXT)
-NOTE = re.compile(r"    Note over (?P<id>[A-Za-z]+\d+)" + TEXT)
+NOTE = re.compile(r"    Note over (?P<id>[A-Za-z]+\d+)(?:,(?P<to>[A-Za-z]+\d+))?" + TEXT)
 
 
 def is_diagram(text):
@@ -159,7 +166,7 @@ def is_diagram(text):
             known.add(participant["id"])
             continue
         found = ARROW.fullmatch(line) or NOTE.fullmatch(line)
-        if not found or not known.issuperset(found.groupdict().values()):
+        if not found or not known.issuperset(filter(None, found.groupdict().values())):
             return False
     return first == "sequenceDiagram"
 

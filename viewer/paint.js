@@ -25,14 +25,18 @@ class Painter {
         [lanes.parentElement.style, byId("early").style, byId("late").style] = [`--bottom: ${view.bottom}px`, edges, edges];
         byId("window").style = `left: ${100 * view.first / (journal.steps || 1)}%; width: ${100 * view.steps / (journal.steps || 1)}%`;
     }
-    names() {
+    names() {  // a bar stands where a life begins: of a process that is started again, or of a port that is opened again
         const { view, journal } = this, name = (text, y, dim, more) => shape("text", { x: LEFT - 8, y, class: `name ${dim ? "dim" : ""}`, ...more }, text);
-        const line = (y, end, more = "") => shape("path", { d: `M${LEFT},${y}H${Math.max(LEFT, Math.min(view.width, end))}`, class: `line ${more}` });
-        const exit = (pid) => journal.exits[pid] ?? Infinity, label = (pid, height) => (height > FOLDED ? journal.nameOf(pid) : "");
+        const within = (x) => Math.max(LEFT, Math.min(view.width, x)), isGone = ({ exited }) => exited !== null && exited < view.first;
+        const bar = (place, y, height) => (place > view.first && view.x(place) < view.width ? `M${view.x(place)},${y}v${height}` : "");
+        const line = (y, begin, end, more, bars = "") => shape("path", { d: `${bars}M${within(begin)},${y}H${within(end)}`, class: `line ${more}` });
+        const life = (y, { begun, exited }) => line(y, view.x(begun ?? -Infinity), view.x(exited ?? Infinity), "", bar(begun, y - 6, 12));
+        const lives = (pid) => (pid < journal.procs ? journal.lives[pid] : []), again = (port) => journal.opened[port - 1].slice(1);
         const lanes = [...view.place].flatMap(([pid, { y, height }]) =>
-            [line(y, pid < journal.procs ? view.x(exit(pid)) : 0), name(label(pid, height), y, exit(pid) < view.first)]);
-        return lanes.concat(view.strips().map((port, row) => [port, view.floor(row)]).flatMap(([port, floor]) =>
-            [name(`port ${port}`, floor - 8, false, { "data-strip": port }), line(floor, view.width), line(floor - FULL, view.width, "full")]));
+            [...lives(pid).map((one) => life(y, one)), name(height > FOLDED ? journal.nameOf(pid) : "", y, isGone(journal.lives[pid].at(-1)))]);
+        return lanes.concat(view.strips().map((port, row) => [port, view.floor(row)]).flatMap(([port, floor]) => [
+            name(`port ${port}`, floor - 8, false, { "data-strip": port }), line(floor - FULL, 0, view.width, "full"),
+            line(floor, 0, view.width, "", again(port).map(({ place }) => bar(place, floor - FULL, FULL)).join(""))]));
     }
     shapes() {
         const { view } = this, stalls = this.journal.stallsOf(...view.range()), rect = (one, { title } = one) => shape("rect", { ...one, title });
@@ -43,7 +47,7 @@ class Painter {
     signs(step) {  // the signs of a step that its shapes share
         const { place, port, end, shown: { side } } = step, { page } = this;
         return [hueOf(port), side, page.marks.has(place) && "found", place === page.chosen?.place && "chosen", step.isTrouble && "trouble",
-            { "": "open", d: "drained" }[end.letter], step.endsBy("xtw") && "cancelled", "mc".includes(step.letter) && "thick"].filter(Boolean).join(" ");
+            { "": "open", d: "drained" }[end.letter], step.endsBy("xtw") && "cancelled", "mco".includes(step.letter) && "thick"].filter(Boolean).join(" ");
     }
     fields({ place, calls }) {
         const { view } = this, width = Math.max(3, view.dots), places = calls.map((call) => view.place.get(this.journal.step(call)?.lane));
@@ -52,7 +56,7 @@ class Painter {
     }
     level({ row, port, from, until, count }) {
         const { view } = this, x = Math.max(LEFT, view.x(from)), width = Math.max(1, Math.min(view.width, view.x(until)) - x);
-        const room = this.journal.rooms[port - 1], height = count / room * FULL, title = `port ${port} holds ${count} of ${room}`;
+        const height = count / this.journal.rooms[port - 1] * FULL, title = `port ${port} holds ${count} of ${this.journal.roomAt(from, port)}`;
         return { class: `level ${hueOf(port)}`, x, y: view.floor(row) - height, width, height, title };
     }
     arrow(to) {

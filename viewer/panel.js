@@ -52,14 +52,15 @@ function stallText(stall, journal) {  // a cause, what full ports hold, who wait
     return { cause, full: items(byPort(({ count }) => count > 0).map(holds)), stalled: items(calls.map(waits)), last: rowsOf(last) };
 }
 function tellWhole(journal, story) {  // of deadlocks the first and the last four
-    const { steps, first, end, from, to, procs, stalls, rooms, asks, waits, exits } = journal, left = stalls.length - 5;
+    const { steps, first, end, from, to, procs, stalls, rooms, asks, waits, lives } = journal, left = stalls.length - 5;
     const names = (steps) => [...steps.filter(Boolean).map(({ pid }) => "P" + pid), `${steps.filter((one) => !one).length} not told`].join(", ");
     const stalled = (place) => html`${link(place)} stalls ${names(journal.stallAt(place).calls.map((one) => journal.step(one))).replace(", 0 not told", "")}`;
     const gap = left > 0 ? [html`and <a href="#find=deadlock">${left} more</a>, then`] : [];
     const longest = [...story.matchAll(/^ *(\d+) +(P\d+) .* (\d+), /gm)], least = longest.at(-1)?.[3];
     const wait = (step, place, pid) => (step ? [called(step, who(step)), step.end.letter ? ender(step) : "the end"] : [`${pid}, ${whoAt(place)}`]);
     const shownAs = (lane) => html`<select data-process="${lane}" aria-label="${lane} shown as">${{ html: byId("forms").innerHTML }}</select>`;
-    const exit = (lane) => exits[lane] !== null && link(exits[lane]), back = link(first, `Steps ${first + 1} to ${end}`, `from=${from}&to=${to}`);
+    const exit = ({ begun, exited }) => [begun !== null && html`back at ${link(begun)} `, exited !== null && link(exited)];
+    const back = link(first, `Steps ${first + 1} to ${end}`, `from=${from}&to=${to}`);
     const box = (port) => html`<label><input type="checkbox" data-port="${port}" ${rooms[port - 1] > 0 && "checked"}> port ${port}</label> `;
     const boxes = (isHeld) => numbers(1, rooms.length + 1).filter((port) => isHeld === rooms[port - 1] > 0).map(box);
     put({
@@ -69,7 +70,7 @@ function tellWhole(journal, story) {  // of deadlocks the first and the last fou
         stalls: items([...stalls.slice(0, 1).map(stalled), ...gap, ...stalls.slice(1).slice(-4).map(stalled)]),
         longest: rowsOf(longest.map(([, step, pid, waited]) => [waited, ...wait(journal.step(step - 1), step - 1, pid)])),
         ties: longest[4] && html`<a href="#find=waited ${least}">Find all that waited ${least}</a>`,
-        processes: rowsOf(waits.map((waited, lane) => [journal.nameOf(lane), asks[lane], waited, exit(lane), shownAs(lane)])), held: boxes(true),
+        processes: rowsOf(waits.map((waited, lane) => [journal.nameOf(lane), asks[lane], waited, exit(lives[lane].at(-1)), shownAs(lane)])), held: boxes(true),
         empty: boxes(false), end: { html: story.replace(/^ *\d+ +P.*\n|, the longest first.*|^ {10}/gm, "").replace(/(?<=step )\d+/g, (step) =>
             (journal.step(step - 1) ? link(step - 1, step).html : step)) },
     });

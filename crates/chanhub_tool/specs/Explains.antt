@@ -1,7 +1,6 @@
 -- What the program writes of a journal, and why it does not.
-use Rattle.std.specs.Prelude.{◌≡◌, ℕ, List, length, Option, Ok, Err, true}
+use Rattle.std.specs.Prelude.{◌≡◌, ℕ, List, length, Option, Ok, Err}
 use Rattle.hub_base.specs.declared.head.Head.{Head}
-use Rattle.hub_base.specs.Head.{has_lives}
 use Rattle.hub_base.specs.Entry.{Entry}
 use Rattle.hub_base.specs.Journal.{JournalView}
 use Rattle.hub_base.specs.Text.{IsText, IsFaulty}
@@ -63,16 +62,8 @@ pub record HasNoSteps (asked : Asked) (bytes : List ℕ) (why : StoryFault) : Ty
   pub spelled : IsText bytes head entries
   pub none : window_of asked (length entries) ≡ Err why
 
--- the bytes are the text of a journal in which processes and ports come back
-pub record HasLives (bytes : List ℕ) : Type 0 where
-  pub head : Head
-  pub entries : List Entry
-  pub spelled : IsText bytes head entries
-  pub lives : has_lives head.edition ≡ true
-
 -- why these bytes are not explained
 abbrev pub HasNone : Asked → List ℕ → StoryFault → Type 0
-HasNone asked bytes fault.Lives = HasLives bytes
 HasNone asked bytes fault.Backward = HasNoSteps asked bytes fault.Backward
 HasNone asked bytes fault.Outside = HasNoSteps asked bytes fault.Outside
 HasNone asked bytes fault.TooLong = HasNoSteps asked bytes fault.TooLong

@@ -29,8 +29,6 @@ EndsEarly Refused FailedWrite Begun replay.NoMemory = Refused
 -- why nothing was explained; nothing was written then, but for a failed write, before which a beginning was, and a page whose memory was
 -- refused, of which a beginning may be
 abbrev pub HasRefused : Asked → (unread left : Option (List ℕ)) → (Unwritten FailedRead FailedWrite Unfailed Begun : Type 0) → StoryFault → Type 0
-HasRefused asked unread left Unwritten FailedRead FailedWrite Unfailed Begun fault.Lives =
-    ReadsNone asked unread left fault.Lives × Unwritten
 HasRefused asked unread left Unwritten FailedRead FailedWrite Unfailed Begun fault.Backward =
     ReadsNone asked unread left fault.Backward × Unwritten
 HasRefused asked unread left Unwritten FailedRead FailedWrite Unfailed Begun fault.Outside =

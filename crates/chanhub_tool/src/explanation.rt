@@ -1,19 +1,18 @@
 //! What is asked of a journal.
 
-ghost use Rattle.std.specs.Prelude.{◌≡◌, ◌<◌, ◌-◌, ◌^◌, false, length, true, IfOk, IfErr, OnOk};
+ghost use Rattle.std.specs.Prelude.{◌≡◌, ◌<◌, ◌-◌, ◌^◌, length, IfOk, IfErr, OnOk};
 ghost use Rattle.std.specs.Io.KnownBytes.{Appends};
 ghost use Rattle.hub_text.specs.ReadJournal.{IsFaultOf};
-ghost use Rattle.hub_base.specs.Head.{IsHead, has_lives};
+ghost use Rattle.hub_base.specs.Head.{IsHead};
 ghost use Rattle.hub_base.specs.Text.{IsText};
 ghost use Rattle.hub_replay.specs.Devices.{AppendsBeginning, Failed};
 ghost use Rattle.chanhub_tool.specs.Explains.{Explains, Shows};
-ghost use Rattle.chanhub_tool.specs.declared.fault.StoryFault.TheVariants as story;
 ghost use Rattle.chanhub_tool.specs.Promises.{EndsEarly, HasNoMemory, HasRefused};
 
 use crate::asked::{Asked, Form, window_of};
 use crate::commands::{diagram_of, picture_of, story_of_steps, trace_of, write_page_of};
 use crate::fault::StoryFault;
-use hub_base::{Edition, MOST_BYTES, ReadFault};
+use hub_base::{MOST_BYTES, ReadFault};
 use hub_core::{ShortJournal, read_short_journal};
 use hub_page::{room, write_text};
 use hub_replay::{ReplayFault, Sink, Source, read_up_to};
@@ -27,18 +26,6 @@ fn journal_of(alloc: Global, bytes: Vec<u8>) -> Result<ShortJournal, ReadFault>
     ensures faulty { IfErr result (λ f. IsFaultOf bytes.items f) }
 {
     read_short_journal(alloc, &bytes)
-}
-
-/// Whether a journal of this edition can be explained: not one in which processes and ports come back.
-fn can_explain(edition: Edition) -> Result<(), StoryFault>
-    ensures ok { OnOk result (has_lives edition ≡ false) }
-    ensures err { IfErr result (λ f. (f ≡ story.Lives) × (has_lives edition ≡ true)) }
-{
-    if edition.has_lives() {
-        Err(StoryFault::Lives)
-    } else {
-        Ok(())
-    }
 }
 
 /// Writes a text that is made.
@@ -62,7 +49,6 @@ fn write_form<W: Sink>(
     output: &mut W,
 ) -> Result<(), ReplayFault>
     requires head { IsHead journal.now.head }
-    requires lasts { has_lives journal.now.head.edition ≡ false }
     requires few { length journal.now.entries < 2 ^ 32 - 1 }
     ensures ok { OnOk result (Shows form window journal.now (Appends (W.contents output.old) (W.contents output.new))) }
     ensures err { IfErr result (EndsEarly
@@ -107,7 +93,6 @@ pub(crate) fn write_explanation<S: Source, W: Sink>(
 {
     let bytes = read_up_to(alloc, input, MOST_BYTES)?;
     let journal = journal_of(alloc, bytes)?;
-    can_explain(journal.head().edition)?;
     let window = window_of(asked, journal.entries().len())?;
     write_form(alloc, asked.form, &journal, window, output)?;
     Ok(())

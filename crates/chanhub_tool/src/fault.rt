@@ -11,8 +11,6 @@ use hub_replay::{ProgramFault, ReplayFault, Sink, WriteFailed, write_pieces};
 /// Why a journal was not explained. Nothing was written, but for a beginning where a write failed, or memory for a page was refused.
 #[derive(Clone, Copy, Debug, PartialEq, Eq)]
 pub enum StoryFault {
-    /// Processes and ports come back in the journal: it is of the third edition.
-    Lives,
     /// The first step that is asked for stands behind the last.
     Backward,
     /// The journal has no such steps.
@@ -33,8 +31,7 @@ impl ProgramFault for StoryFault {
     /// 1 for a device or memory, 2 for a malformed journal or steps that it does not have.
     fn status(self) -> u8 {
         match self {
-            StoryFault::Lives
-            | StoryFault::Backward
+            StoryFault::Backward
             | StoryFault::Outside
             | StoryFault::TooLong
             | StoryFault::TooMany => 2,
@@ -44,10 +41,6 @@ impl ProgramFault for StoryFault {
 
     fn write_line<W: Sink>(self, errors: &mut W) -> Result<(), WriteFailed> {
         match self {
-            StoryFault::Lives => write_pieces(
-                errors,
-                &["chanhub: a journal of the third edition is not shown\n"],
-            ),
             StoryFault::Backward => write_pieces(errors, &["chanhub: FROM is above TO\n"]),
             StoryFault::Outside => write_pieces(errors, &["chanhub: no such steps\n"]),
             StoryFault::TooLong => write_pieces(

@@ -2,7 +2,6 @@ mod Appended
 mod ArrowsLeft
 mod Askings
 pub mod Plain
-mod Exits
 mod Halves
 mod Lasts
 mod OtherPorts
@@ -12,3 +11,4 @@ mod Rows
 pub mod Titles
 mod Signs
 mod Kept
+mod Lives

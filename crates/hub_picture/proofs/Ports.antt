@@ -17,25 +17,25 @@ all-drawn w es told n ports arrows few many so =
     so ∙ ap (λ k. arrows_to k w es told) all
 
 -- what does not tell that a port was made has no strip
-no-strip : (es : List Entry) (row place : ℕ) (w : What) → is_made w ≡ false → made_at es row place w ≡ None
-no-strip es row place (what.Made p) other = absurd cc
-no-strip es row place what.Default other = refl
-no-strip es row place (what.Fired i o) other = refl
-no-strip es row place what.Done other = refl
-no-strip es row place what.Parked other = refl
-no-strip es row place what.Stalled other = refl
-no-strip es row place (what.Fault f) other = refl
-no-strip es row place what.Cancelled other = refl
+no-strip : (es : List Entry) (all : List Told) (row place : ℕ) (w : What) → is_made w ≡ false → made_at es all row place w ≡ None
+no-strip es all row place (what.Made p) other = absurd cc
+no-strip es all row place what.Default other = refl
+no-strip es all row place (what.Fired i o) other = refl
+no-strip es all row place what.Done other = refl
+no-strip es all row place what.Parked other = refl
+no-strip es all row place what.Stalled other = refl
+no-strip es all row place (what.Fault f) other = refl
+no-strip es all row place what.Cancelled other = refl
 
-pub made-strips : (es : List Entry) (row : ℕ) (all : List Told) → strips_from es row (filter makes_port all) ≡ strips_from es row all
-made-strips es row [] = refl
-made-strips es row (t ∷ ts) = by (makes_port t) refl (made-strips es (row + 1) ts) (made-strips es row ts)
+pub made-strips : (es : List Entry) (all : List Told) (row : ℕ) (ts : List Told) → strips_from es all row (filter makes_port ts) ≡ strips_from es all row ts
+made-strips es all row [] = refl
+made-strips es all row (t ∷ ts) = by (makes_port t) refl (made-strips es all (row + 1) ts) (made-strips es all row ts)
   where
     made : List Told
     made = filter makes_port ts
 
-    by : (b : Bool) → b ≡ makes_port t → strips_from es (row + 1) made ≡ strips_from es (row + 1) ts → strips_from es row made ≡ strips_from es row ts →
-        strips_from es row (cond b (t ∷ made) made) ≡ strips_from es row (t ∷ ts)
+    by : (b : Bool) → b ≡ makes_port t → strips_from es all (row + 1) made ≡ strips_from es all (row + 1) ts →
+        strips_from es all row made ≡ strips_from es all row ts → strips_from es all row (cond b (t ∷ made) made) ≡ strips_from es all row (t ∷ ts)
     by true is below same = rw (below, same) refl
     by false is below same =
-        same ∙ ap (λ o. before o (strips_from es (row + 1) ts) (strips_from es row ts)) (sym (no-strip es row t.asked t.event.what (sym is)))
+        same ∙ ap (λ o. before o (strips_from es all (row + 1) ts) (strips_from es all row ts)) (sym (no-strip es all row t.asked t.event.what (sym is)))

@@ -97,7 +97,7 @@ abbrev pub outside_in : Window → ℕ → List Entry → List Told → List Tol
 outside_in w procs es all waiting = outside_beside procs es all (open_in w (length es) waiting)
 
 -- ---- the whole
--- the lanes are the processes, the strips the ports that hold a value in the window; the boxes are the entries of the window, the bars the
+-- the lanes are the lives of processes, the strips the ports that hold a value in the window; the boxes are the entries of the window, the bars the
 -- calls that waited, the arrows the passages of all ports, and the levels what ports held, as far as they touch it; the
 -- stalls who was stalled by its steps, the waiters who waits in vain, and for what, and then who is outside: each once, in order, and
 -- nothing else

@@ -1,5 +1,5 @@
 -- Where steps and processes stand on a page. Steps go on for a band, and then in the next band below it.
-use Rattle.std.specs.Prelude.{ℕ, ◌+◌, ◌-◌, ◌*◌, ◌/◌, ◌≤◌, min, length, Option, None, Some}
+use Rattle.std.specs.Prelude.{ℕ, ◌+◌, ◌-◌, ◌*◌, ◌/◌, ◌≤◌, min, nat_lt, Bool, true, length, Option, None, Some}
 use Rattle.hub_story.specs.declared.window.Window.{Window}
 use Rattle.hub_base.specs.declared.limits.TheConstants.{MOST_PORTS}
 use Rattle.hub_picture.specs.declared.drawing.Drawing.{Drawing}
@@ -62,6 +62,16 @@ floor_of f row = top_of f + (sizes_of f.scale).lane * (f.procs + 1) + (sizes_of 
 abbrev pub until : Frame → Option ℕ → ℕ
 until f None = f.steps.end
 until f (Some place) = place
+
+-- from where something goes on that begins by such a step: the left edge where there is none
+abbrev pub since : Frame → Option ℕ → ℕ
+since f None = LEFT
+since f (Some place) = x_of f place
+
+-- whether it begins before the band ends
+abbrev pub has_begun : Frame → Option ℕ → Bool
+has_begun f None = true
+has_begun f (Some place) = nat_lt place f.steps.end
 
 -- how many strips there are
 abbrev pub ports_of : Drawing → ℕ

@@ -1,12 +1,10 @@
 -- How full ports were: a strip for each port that holds a value in the window, and on it a level from each value that moves there
 -- to the next.
-use Rattle.std.specs.Prelude.{ℕ, zero, ◌+◌, ◌==◌, ◌&&◌, Bool, not, nat_lt, length, List, [], ◌∷◌, filter, Option, None, Some, slice_get, if◌then◌else◌}
+use Rattle.std.specs.Prelude.{ℕ, zero, ◌+◌, ◌==◌, ◌&&◌, Bool, not, nat_lt, length, List, [], ◌∷◌, filter, Option, None, Some, if◌then◌else◌}
 use Rattle.std.specs.List.{flat_map}
-use Rattle.std.specs.Option.{option_map_or}
 use Rattle.hub_base.specs.declared.value.Port.{Port}
 use Rattle.hub_base.specs.declared.value.Value.{Value}
-use Rattle.hub_base.specs.Entry.{Entry, Step}
-use Rattle.hub_base.specs.declared.entry.Step.TheVariants.{Make}
+use Rattle.hub_base.specs.Entry.{Entry}
 use Rattle.hub_base.specs.declared.case.Case.{Case}
 use Rattle.hub_base.specs.declared.event.Outcome.{Outcome}
 use Rattle.hub_base.specs.declared.event.What.{What}
@@ -15,44 +13,36 @@ use Rattle.hub_base.specs.Values.{cases_at, of_what, sent_on, got_on}
 use Rattle.hub_story.specs.declared.levels.Level.{Level}
 use Rattle.hub_story.specs.declared.told.Told.{Told}
 use Rattle.hub_story.specs.declared.window.Window.{Window}
+use Rattle.hub_story.specs.Lives.{most_room}
 use Rattle.hub_picture.specs.declared.strips.Strip.{Strip}
 use Rattle.hub_picture.specs.declared.levels.Held.{Held}
 use Rattle.hub_story.specs.Windows.{goes_on}
 
 -- ---- the ports
--- how many values the port has room for that this step makes
-abbrev pub room_of : Step → ℕ
-room_of (Make cap) = cap
-room_of s = 0
-
--- how many the port has room for that the entry at this place makes
-abbrev pub room_at : List Entry → ℕ → ℕ
-room_at es place = option_map_or (λ e. room_of e.step) (slice_get es place) 0
-
 -- the strip of a port in this row, where it has room
 abbrev pub with_room : ℕ → Port → ℕ → Option Strip
 with_room row p room = if room == 0 then None else Some (record { row = row; port = p; room = room })
 
 -- that of the port that is told to be made by the entry at this place
-abbrev pub made_at : List Entry → ℕ → ℕ → What → Option Strip
-made_at es row place (what.Made p) = with_room row p (room_at es place)
-made_at es row place w = None
+abbrev pub made_at : List Entry → List Told → ℕ → ℕ → What → Option Strip
+made_at es all row place (what.Made p) = with_room row p (most_room es all p place)
+made_at es all row place w = None
 
-abbrev pub strip_of : List Entry → ℕ → Told → Option Strip
-strip_of es row t = made_at es row t.asked t.event.what
+abbrev pub strip_of : List Entry → List Told → ℕ → Told → Option Strip
+strip_of es all row t = made_at es all row t.asked t.event.what
 
 -- a strip before these, or else those
 abbrev pub before : Option Strip → List Strip → List Strip → List Strip
 before None these those = those
 before (Some s) these those = s ∷ these
 
--- the strips of the ports that are told to be made, from this row on
-abbrev pub strips_from : List Entry → ℕ → List Told → List Strip
-strips_from es row [] = []
-strips_from es row (t ∷ ts) = before (strip_of es row t) (strips_from es (row + 1) ts) (strips_from es row ts)
+-- of all that is told, the strips of the ports that are told to be made here, from this row on
+abbrev pub strips_from : List Entry → List Told → ℕ → List Told → List Strip
+strips_from es all row [] = []
+strips_from es all row (t ∷ ts) = before (strip_of es all row t) (strips_from es all (row + 1) ts) (strips_from es all row ts)
 
 abbrev pub all_strips : List Entry → List Told → List Strip
-all_strips es all = strips_from es 0 all
+all_strips es all = strips_from es all 0 all
 
 -- ---- what they held
 abbrev pub empty : Level

@@ -1,5 +1,4 @@
 pub mod Lanes
-pub mod Exits
 pub mod Levels
 pub mod Moves
 pub mod Waiters

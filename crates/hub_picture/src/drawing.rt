@@ -17,7 +17,7 @@ pub struct Drawing {
     pub procs: u8,
     /// The steps that are shown.
     pub window: Window,
-    /// The processes: a lane each, until it exits.
+    /// The processes: a lane each, until it exits, and one more each time that it is started again.
     pub lanes: Vec<Lane>,
     /// The ports that hold a value at one of them: a strip each.
     pub strips: Vec<Strip>,

@@ -2,7 +2,7 @@
 
 ghost use Rattle.std.specs.Prelude.{◌≡◌, ◌≤◌, ◌+◌, ◌*◌, max, min};
 ghost use Rattle.hub_picture.specs.Frames.{AreBounded, by_scale, floor_of, frame_of, height_of, ports_of, sizes_of, steps_between, top_of};
-ghost use Rattle.hub_picture.specs.Frames.{until, x_of, y_of};
+ghost use Rattle.hub_picture.specs.Frames.{has_begun, since, until, x_of, y_of};
 
 use crate::{Drawing, Window};
 use hub_base::{CASE_PLACES, MOST_PORTS, MOST_PROCS};
@@ -196,6 +196,28 @@ impl Frame {
         let lane = self.scale.sizes().lane;
         let lanes = lane * (u64::from(self.procs) + 1) + lane / 2;
         self.top() + lanes + STRIP * (1 + row.min(self.ports.into()) as u64)
+    }
+
+    /// From where something goes on that begins by such a step.
+    pub fn since(self, begun: Option<u32>) -> u64
+        ensures value { result ≡ since self begun }
+        ensures least { LEFT ≤ result }
+        ensures most { result ≤ 1099511627776 }
+    {
+        match begun {
+            Some(place) => self.x(place),
+            None => LEFT,
+        }
+    }
+
+    /// Whether it begins before the band ends.
+    pub fn has_begun(self, begun: Option<u32>) -> bool
+        ensures { result ≡ has_begun self begun }
+    {
+        match begun {
+            Some(place) => place < self.steps.end,
+            None => true,
+        }
     }
 
     /// Until where something goes on that ends so.

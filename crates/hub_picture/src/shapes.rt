@@ -25,7 +25,7 @@ use std::alloc::{AllocError, Global};
 fn all_strips(alloc: Global, moves: &Moves<'_>) -> Result<Vec<Strip>, AllocError>
     ensures { IfOk result (λ strips. strips.items ≡ all_strips moves.now.entries.now moves.now.told.now) }
 {
-    strips_of(alloc, moves.entries, &moves.made)
+    strips_of(alloc, moves.entries, moves.told, &moves.made)
 }
 
 /// The strips that are shown, and all levels.

@@ -1,32 +1,61 @@
 -- Who received from each port, and who has left, after one event more.
 use Rattle.std.proofs.Common.{◌≡◌, ◌<◌, ◌≤◌, ◌+◌, ◌==◌, ◌&&◌, ◌||◌, ℕ, Bool, true, false, not, cond, arith, List, [], ◌∷◌, ◌++◌}
-use Rattle.std.proofs.Common.{refl, ap, ◌∙◌, sym, append-nil, filter, length, map, nat_lt, subst, take, get_or, Option, slice_index_or}
+use Rattle.std.proofs.Common.{refl, ap, ◌∙◌, sym, append-nil, filter, length, map, nat_lt, subst, take, get_or, Option, None, slice_get, slice_index_or}
 use Rattle.std.specs.List.{filter_map, list_all, list_any}
+use Rattle.std.specs.Option.{option_and_then, option_map, option_map_or}
 use Rattle.std.proofs.lemmas.Bool.{eqb-true}
 use Rattle.std.proofs.lemmas.List.{map-append}
-use Rattle.std.proofs.lemmas.List.Elements.{filter-append, filter_map-append}
+use Rattle.std.proofs.lemmas.List.Elements.{filter_map-append}
 use Rattle.std.proofs.lemmas.List.Folds.{list_all-append}
+use Rattle.std.proofs.lemmas.List.Sums.{fold-append}
 use Rattle.hub_base.specs.declared.value.Port.{Port}
 use Rattle.hub_base.specs.Entry.{Entry}
-use Rattle.hub_base.specs.Values.{got_on}
+use Rattle.hub_base.specs.declared.event.What.{What}
+use Rattle.hub_base.specs.declared.event.What.TheVariants as what
+use Rattle.hub_base.specs.Values.{cases_at, got_on, of_what}
 use Rattle.hub_story.specs.declared.told.Told.{Told}
 use Rattle.hub_story.specs.declared.moved.Moved.{Moved}
 use Rattle.hub_story.specs.declared.receivers.Receivers.{Receivers as Noted}
-use Rattle.hub_story.specs.Leavers.{leavers, leaves}
+use Rattle.hub_story.specs.Leavers.{is_done, is_told_to, leavers, with_leaver}
 use Rattle.hub_story.specs.Levels.{told_by}
+use Rattle.hub_story.specs.Lives.{life, reopened, reopens, with_life}
 use Rattle.hub_story.specs.OfPorts.{one_of, things_on}
-use Rattle.hub_story.specs.Outside.{is_told_to}
-use Rattle.hub_story.specs.Passing.{moved_by}
-use Rattle.hub_story.specs.Receivers.{AreReceivers, are_gone, gone_from, got_there, receivers}
+use Rattle.hub_story.specs.Passing.{moved_by, receives}
+use Rattle.hub_story.specs.Receivers.{AreReceivers, are_gone, begun, gone_from, got_there, receiver_by, receivers}
 use Rattle.hub_story.proofs.Filters.{filter-take}
 
 abbrev pid_of : Moved → ℕ
 pid_of m = m.told.event.pid.0
 
-receivers-append : (es : List Entry) (xs ys : List Told) (p : Port) → receivers es (xs ++ ys) p ≡ receivers es xs p ++ receivers es ys p
-receivers-append es xs ys p =
+abbrev received : List Entry → List Told → Port → List ℕ
+received es all p = map pid_of (receives es all p)
+
+received-append : (es : List Entry) (xs ys : List Told) (p : Port) → received es (xs ++ ys) p ≡ received es xs p ++ received es ys p
+received-append es xs ys p =
     ap (map pid_of) (filter_map-append (moved_by (got_on p) es) xs ys)
     ∙ map-append pid_of (filter_map (moved_by (got_on p) es) xs) (filter_map (moved_by (got_on p) es) ys)
+
+-- a port is opened again by no event by which a value moves
+done-moves-nothing : (es : List Entry) (t : Told) (p : Port) → reopens es p t ≡ true → receiver_by es t p ≡ []
+done-moves-nothing es t p is = by t.event.what refl
+  where
+    at : What → List ℕ
+    at w = map pid_of (filter_map (λ (u : Told). option_map (λ v. record { told = t; value = v }) (of_what (got_on p) (cases_at es t.asked) w)) (t ∷ []))
+
+    unless-done : is_done t.event.what ≡ false → reopens es p t ≡ false
+    unless-done off =
+        let port = option_and_then (λ (e : Entry). reopened e.step) (slice_get es t.asked) in
+        ap (λ (b : Bool). option_map_or (λ (q : Port). q.0 == p.0) (cond b port None) false) off
+
+    by : (w : What) → w ≡ t.event.what → receiver_by es t p ≡ []
+    by (what.Fired i o) same = let off : reopens es p t ≡ false = unless-done (ap is_done (sym same)) in absurd cc
+    by (what.Made q) same = ap at (sym same)
+    by what.Default same = ap at (sym same)
+    by what.Done same = ap at (sym same)
+    by what.Parked same = ap at (sym same)
+    by what.Stalled same = ap at (sym same)
+    by what.Cancelled same = ap at (sym same)
+    by (what.Fault f) same = ap at (sym same)
 
 -- who is among them already adds nothing
 known-already : (test : ℕ → Bool) (n : ℕ) (xs : List ℕ) → list_any (λ y. y == n) xs ≡ true → list_all test xs ≡ list_all test (xs ++ n ∷ [])
@@ -57,18 +86,32 @@ known-there lists p q n test is = by (q.0 == p.0) refl
         (ap (λ k. list_any (λ y. y == n) (slice_index_or lists k [])) (sym (eqb-true q.0 p.0 (sym e))) ∙ is)
 
 -- ---- event by event
-pub receivers-next : (es : List Entry) (before : List Told) (t : Told) (port : Option Port) (old new : Noted) → AreReceivers es before old →
-    ((p : Port) → receivers es (t ∷ []) p ≡ got_there p port t.event.pid.0) →
-    ((p : Port) (test : ℕ → Bool) → list_all test (things_on new.pids p) ≡ list_all test (things_on old.pids p ++ got_there p port t.event.pid.0)) →
-    new.left.items ≡ old.left.items ++ filter (leaves es) (t ∷ []) → AreReceivers es (before ++ t ∷ []) new
-receivers-next es before t port old new was here received left = record {
+-- what is told of a port's present life after one event more: it is a new life, or goes on
+life-next : (es : List Entry) (before : List Told) (t : Told) (p : Port) (ns : List ℕ) (test : ℕ → Bool) →
+    list_all test ns ≡ list_all test (receivers es before p) →
+    list_all test (begun es t p ns ++ receiver_by es t p) ≡ list_all test (receivers es (before ++ t ∷ []) p)
+life-next es before t p ns test was =
+    by (reopens es p t) refl ∙ ap (λ l. list_all test (received es l p)) (sym (fold-append (with_life es p) [] before (t ∷ [])))
+  where
+    by : (b : Bool) → b ≡ reopens es p t →
+        list_all test (cond b [] ns ++ receiver_by es t p) ≡ list_all test (received es (cond b [] (life es p before ++ t ∷ [])) p)
+    by true is = ap (list_all test) (done-moves-nothing es t p (sym is))
+    by false is =
+        list_all-append test ns (receiver_by es t p) ∙ ap (λ b. b && list_all test (receiver_by es t p)) was
+        ∙ sym (list_all-append test (receivers es before p) (receiver_by es t p))
+        ∙ ap (list_all test) (sym (received-append es (life es p before) (t ∷ []) p))
+
+pub receivers-next : (es : List Entry) (before : List Told) (t : Told) (port : Option Port) (old new : Noted) (begun_pids : List (List ℕ)) →
+    AreReceivers es before old → ((p : Port) → receiver_by es t p ≡ got_there p port t.event.pid.0) →
+    ((p : Port) → things_on begun_pids p ≡ begun es t p (things_on old.pids p)) →
+    ((p : Port) (test : ℕ → Bool) → list_all test (things_on new.pids p) ≡ list_all test (things_on begun_pids p ++ got_there p port t.event.pid.0)) →
+    new.left.items ≡ with_leaver es old.left.items t → AreReceivers es (before ++ t ∷ []) new
+receivers-next es before t port old new begun_pids was here begins received left = record {
   receivers = λ p test.
-      received p test ∙ ap (λ l. list_all test (things_on old.pids p ++ l)) (sym (here p))
-      ∙ list_all-append test (things_on old.pids p) (receivers es (t ∷ []) p)
-      ∙ ap (λ b. b && list_all test (receivers es (t ∷ []) p)) (was.receivers p test)
-      ∙ sym (list_all-append test (receivers es before p) (receivers es (t ∷ []) p))
-      ∙ ap (list_all test) (sym (receivers-append es before (t ∷ []) p));
-  left = left ∙ ap (λ l. l ++ filter (leaves es) (t ∷ [])) was.left ∙ sym (filter-append (leaves es) before (t ∷ []));
+      received p test ∙ ap (λ l. list_all test (things_on begun_pids p ++ l)) (sym (here p))
+      ∙ ap (λ l. list_all test (l ++ receiver_by es t p)) (begins p)
+      ∙ life-next es before t p (things_on old.pids p) test (was.receivers p test);
+  left = left ∙ ap (λ l. with_leaver es l t) was.left ∙ sym (fold-append (with_leaver es) [] before (t ∷ []));
 }
 
 pub nobody-yet : (es : List Entry) (noted : Noted) → ((p : Port) → things_on noted.pids p ≡ []) → noted.left.items ≡ [] → AreReceivers es [] noted

@@ -6,7 +6,7 @@ use Rattle.std.specs.Global.{Vec}
 use Rattle.std.proofs.lemmas.Bool.{eqb-true, eqb-false}
 use Rattle.std.proofs.lemmas.List.{get_or-map, get_or-set_same, get_or-set_other, length-map, map-append, map-set}
 use Rattle.hub_base.specs.declared.value.Port.{Port}
-use Rattle.hub_story.specs.OfPorts.{one_of, things_on}
+use Rattle.hub_story.specs.OfPorts.{one_of, things_on, without}
 
 -- an empty list more
 pub none-more : {T : Type 0} (lists : List (List T)) → ((k : ℕ) → slice_index_or lists k [] ≡ []) → (k : ℕ) → slice_index_or (lists ++ [] ∷ []) k [] ≡ []
@@ -51,3 +51,23 @@ things-pushed {T} lists old new i p q x below is was more =
     ∙ ap (λ l. things_on (slice_set all i l) q) (more ∙ ap (λ l. l ++ x ∷ []) own)
     ∙ ap (λ k. things_on (slice_set all k (things_on all p ++ x ∷ [])) q) is
     ∙ things-more all p q x (omega (arith, below, length-map lists items))
+
+-- the things of one port taken out
+things-fewer : {T : Type 0} (lists : List (List T)) (p q : Port) → p.0 < length lists →
+    things_on (slice_set lists p.0 []) q ≡ without p q (things_on lists q)
+things-fewer lists p q below = by (p.0 == q.0) refl
+  where
+    by : (b : Bool) → b ≡ (p.0 == q.0) → things_on (slice_set lists p.0 []) q ≡ cond b [] (things_on lists q)
+    by true is =
+        ap (λ k. slice_index_or (slice_set lists p.0 []) k []) (sym (eqb-true p.0 q.0 (sym is))) ∙ get_or-set_same lists p.0 [] [] below
+    by false is = get_or-set_other lists p.0 q.0 [] [] (λ e. eqb-false p.0 q.0 (sym is) (sym e))
+
+pub things-cleared : {T : Type 0} (lists : List (Vec T)) (new : Vec T) (i : ℕ) (p q : Port) → p.0 < length lists → i ≡ p.0 → new.items ≡ [] →
+    things_on (map (λ (v : Vec T). v.items) (slice_set lists i new)) q ≡ without p q (things_on (map (λ (v : Vec T). v.items) lists) q)
+things-cleared {T} lists new i p q below is none =
+    let items : Vec T → List T = λ v. v.items in
+    let all = map items lists in
+    ap (λ l. things_on l q) (map-set items lists i new)
+    ∙ ap (λ l. things_on (slice_set all i l) q) none
+    ∙ ap (λ k. things_on (slice_set all k []) q) is
+    ∙ things-fewer all p q (omega (arith, below, length-map lists items))

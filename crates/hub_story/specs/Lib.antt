@@ -4,6 +4,7 @@ pub mod LastCalls
 pub mod Passing
 pub mod Waiting
 pub mod Leavers
+pub mod Lives
 pub mod Outside
 pub mod Levels
 pub mod Ends

@@ -4,18 +4,14 @@ use Rattle.std.specs.List.{list_any}
 use Rattle.hub_base.specs.Entry.{Entry}
 use Rattle.hub_story.specs.declared.outside.Outsider.{Outsider}
 use Rattle.hub_story.specs.declared.told.Told.{Told}
-use Rattle.hub_story.specs.Leavers.{leavers}
+use Rattle.hub_story.specs.Leavers.{is_told_to, leavers}
 
 -- where the last step of process n stands, where these entries, the first of which stands at this place, come behind others
 abbrev pub last_of : ℕ → ℕ → Option ℕ → List Entry → Option ℕ
 last_of n place before [] = before
 last_of n place before (e ∷ es) = last_of n (place + 1) (if e.pid.0 == n then Some place else before) es
 
--- it is told to process n
-abbrev pub is_told_to : ℕ → Told → Bool
-is_told_to n t = t.event.pid.0 == n
-
--- process n has not exited, and is not among these, which wait
+-- process n has not exited, or was started again, and is not among these, which wait
 abbrev pub is_outside : List Entry → List Told → List Told → ℕ → Bool
 is_outside es all waiting n = not (list_any (is_told_to n) (leavers es all)) && not (list_any (is_told_to n) waiting)
 

@@ -1,15 +1,19 @@
 -- Worked rows of what journals tell.
-use Rattle.std.specs.Prelude.{◌≡◌, ℕ, false, List, [], ◌∷◌, map, Option, None, Some, refl}
+use Rattle.std.specs.Prelude.{◌≡◌, ℕ, Bool, true, false, List, [], ◌∷◌, map, Option, None, Some, refl}
 use Rattle.std.specs.Option.{option_map}
 use Rattle.hub_base.specs.Entry.{Entry}
 use Rattle.hub_base.specs.declared.case.Case.TheVariants.{Send}
 use Rattle.hub_base.specs.declared.value.Pid.{Pid}
 use Rattle.hub_base.specs.declared.value.Value.{Value}
 use Rattle.hub_base.specs.Value.{bytes_of}
-use Rattle.hub_base.specs.Notation.{procs, procs_two, port, r, make, send, recv, exit, select, cancel, cancelled}
+use Rattle.hub_base.specs.Notation.{procs, procs_two, procs_three, port, r, make, send, recv, close, exit, select, cancel, cancelled, start, reopen}
 use Rattle.hub_story.specs.declared.told.Told.{Told}
 use Rattle.hub_story.specs.declared.moved.Passage.{Passage}
 use Rattle.hub_story.specs.Clock.{clock_of}
+use Rattle.hub_story.specs.Leavers.{leavers}
+use Rattle.hub_story.specs.Lives.{most_room}
+use Rattle.hub_story.specs.Outside.{outside}
+use Rattle.hub_story.specs.Receivers.{gone_from}
 use Rattle.hub_story.specs.Told.{told, end_of}
 use Rattle.hub_story.specs.Passing.{passages}
 use Rattle.hub_story.specs.Waiting.{still_waiting, stalled_by}
@@ -127,3 +131,60 @@ alone_row = refl
 
 pub first_edition_row : clock_of (procs 3) (recv 2 0 ∷ []) ≡ None
 first_edition_row = refl
+
+-- a process that is started again has not left, until it exits again
+abbrev comes_back : List Entry
+comes_back = make 0 1 ∷ exit 1 ∷ exit 2 ∷ start 0 1 ∷ []
+
+abbrev left_after : List Entry → List ℕ
+left_after es = places (leavers es (told (procs_three 3) es))
+
+pub other_left_row : left_after comes_back ≡ 2 ∷ []
+other_left_row = refl
+
+pub leaves_again_row : left_after (make 0 1 ∷ exit 1 ∷ exit 2 ∷ start 0 1 ∷ exit 1 ∷ []) ≡ 2 ∷ 4 ∷ []
+leaves_again_row = refl
+
+-- a start that is a fault starts nobody
+pub not_gone_row : left_after (make 0 1 ∷ exit 1 ∷ start 0 2 ∷ []) ≡ 1 ∷ []
+not_gone_row = refl
+
+abbrev outside_after : List Entry → List ℕ
+outside_after es = map (λ o. o.pid.0) (outside es (told (procs_three 3) es) [] 3)
+
+pub outside_row : outside_after comes_back ≡ 0 ∷ 1 ∷ []
+outside_row = refl
+
+-- of a port all receivers are gone, until one of them comes back, or the port has a new life
+abbrev receivers_go : List Entry
+receivers_go = make 0 1 ∷ send 0 1 5 ∷ recv 1 1 ∷ exit 1 ∷ []
+
+abbrev reopens_port : List Entry
+reopens_port = make 0 1 ∷ send 0 1 5 ∷ recv 1 1 ∷ exit 1 ∷ close 0 1 ∷ reopen 0 1 2 ∷ []
+
+abbrev gone_after : List Entry → Bool
+gone_after es = gone_from es (told (procs_three 3) es) (port 1)
+
+pub gone_row : gone_after receivers_go ≡ true
+gone_row = refl
+
+pub back_row : gone_after (make 0 1 ∷ send 0 1 5 ∷ recv 1 1 ∷ exit 1 ∷ start 0 1 ∷ []) ≡ false
+back_row = refl
+
+pub new_life_row : gone_after reopens_port ≡ false
+new_life_row = refl
+
+-- a reopen that is a fault begins none
+pub same_life_row : gone_after (make 0 1 ∷ send 0 1 5 ∷ recv 1 1 ∷ exit 1 ∷ reopen 0 1 2 ∷ []) ≡ true
+same_life_row = refl
+
+pub most_room_row : most_room reopens_port (told (procs_three 3) reopens_port) (port 1) 0 ≡ 2
+most_room_row = refl
+
+-- in the third edition too a clock is known
+pub third_edition_row : clock_of (procs_three 3) (recv 2 0 ∷ make 0 1 ∷ exit 1 ∷ start 0 1 ∷ exit 2 ∷ []) ≡ two
+third_edition_row = refl
+
+-- who starts another process is none
+pub starting_row : clock_of (procs_three 3) (recv 2 0 ∷ exit 1 ∷ start 2 1 ∷ []) ≡ None
+starting_row = refl

@@ -2,7 +2,7 @@
 
 ghost use Rattle.std.specs.Prelude.{◌≡◌, ◌++◌, [], IfOk, OnOk};
 ghost use Rattle.hub_base.specs.declared.value.Port.{Port};
-ghost use Rattle.hub_story.specs.OfPorts.{one_of, things_on};
+ghost use Rattle.hub_story.specs.OfPorts.{one_of, things_on, without};
 
 use hub_base::Port as PortNumber;
 use std::alloc::{AllocError, Global};
@@ -49,6 +49,13 @@ impl<T: Copy> ByPort<T> {
         let list = &mut self.lists[usize::from(port.0)];
         list.push(thing)?;
         Ok(())
+    }
+
+    /// Takes out those of this port.
+    pub fn clear(&mut self, port: PortNumber)
+        ensures { (q : Port) → things_on self.new q ≡ without port q (things_on self.old q) }
+    {
+        self.lists[usize::from(port.0)].clear();
     }
 
     /// Those of this port.

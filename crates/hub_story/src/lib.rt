@@ -11,6 +11,7 @@ mod exits;
 mod last_calls;
 mod laws;
 mod levels;
+mod lives;
 mod moved;
 mod outside;
 mod passing;
@@ -22,12 +23,13 @@ mod window;
 
 pub use by_port::{ByPort, PORT_NUMBERS};
 pub use clock::clock_of;
-pub use exits::leaves;
+pub use exits::{comes_back, leaves};
 pub use laws::{
     entries_end_once, events_are_told, levels_are_told, passages_are_in_time, passages_are_told,
     sends_are_told, waiting_is_told,
 };
 pub use levels::Level;
+pub use lives::{most_room, reopened_port};
 pub use moved::{Moved, Passage};
 pub use outside::{Outsider, any_told_to};
 pub use passing::{Side, got_port, moved_by, sent_port};

@@ -2,8 +2,8 @@
 
 ghost use Rattle.std.specs.Prelude.{◌≡◌, ◌<◌, ◌^◌, ℕ, None, length, slice_index_or, IfOk};
 ghost use Rattle.std.specs.List.{list_any};
-ghost use Rattle.hub_story.specs.Leavers.{leavers};
-ghost use Rattle.hub_story.specs.Outside.{is_told_to, last_of, outside};
+ghost use Rattle.hub_story.specs.Leavers.{is_told_to, leavers};
+ghost use Rattle.hub_story.specs.Outside.{last_of, outside};
 
 use crate::Told;
 use crate::last_calls::{PID_NUMBERS, no_calls};

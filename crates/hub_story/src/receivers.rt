@@ -1,19 +1,19 @@
-//! Who received from each port, and who has left.
+//! Who received from each port in its present life, and who has left.
 
-ghost use Rattle.std.specs.Prelude.{◌≡◌, ◌+◌, ◌∷◌, ◌++◌, ℕ, Bool, List, [], filter, IfOk, OnOk};
+ghost use Rattle.std.specs.Prelude.{◌≡◌, ◌+◌, ◌∷◌, ◌++◌, ℕ, Bool, List, [], IfOk, OnOk};
 ghost use Rattle.std.specs.List.{list_all, list_any};
 ghost use Rattle.hub_base.specs.declared.value.Port.{Port as PortNumber};
 ghost use Rattle.hub_base.specs.Entry.{Entry};
 ghost use Rattle.hub_story.specs.declared.told.Told.{Told as Event};
-ghost use Rattle.hub_story.specs.Leavers.{leaves};
+ghost use Rattle.hub_story.specs.Leavers.{is_told_to};
 ghost use Rattle.hub_story.specs.Levels.{told_by};
 ghost use Rattle.hub_story.specs.OfPorts.{things_on};
-ghost use Rattle.hub_story.specs.Outside.{is_told_to};
-ghost use Rattle.hub_story.specs.Receivers.{AreReceivers, are_gone, got_there, receivers};
+ghost use Rattle.hub_story.specs.Receivers.{AreReceivers, are_gone, begun, got_there, receiver_by};
 
 use crate::Told;
 use crate::by_port::ByPort;
-use crate::exits::leaves;
+use crate::exits::note_leaver;
+use crate::lives::reopened_port;
 use crate::outside::any_told_to;
 use crate::passing::got_port;
 use hub_base::{Port, What};
@@ -23,15 +23,15 @@ use std::alloc::{AllocError, Global};
 /// Who received from each port, and who has left.
 #[derive(Drop)]
 pub struct Receivers {
-    /// Who received values from each port, each process once.
+    /// Who received values from each port since it was made or opened again, each process once.
     pub pids: ByPort<u8>,
-    /// The exits that were done, in order.
+    /// The exits of those who have left, in order.
     pub left: Vec<Told>,
 }
 
 /// From which port a value is told to have been received.
 fn port_of(entries: &ShortEntries, told: &Told) -> Option<Port>
-    ensures { (p : PortNumber) → receivers entries.now (told.now ∷ []) p ≡ got_there p result told.now.event.pid.0 }
+    ensures { (p : PortNumber) → receiver_by entries.now told.now p ≡ got_there p result told.now.event.pid.0 }
 {
     let What::Fired { case, outcome } = told.event.what else {
         return None;
@@ -53,14 +53,13 @@ fn note_receiver(pids: &mut ByPort<u8>, port: Option<Port>, pid: u8) -> Result<(
     pids.push(port, pid)
 }
 
-/// Takes in who leaves by the next event, if anybody does.
-fn note_leaver(left: &mut Vec<Told>, entries: &ShortEntries, told: &Told) -> Result<(), AllocError>
-    ensures { OnOk result (left.new.items ≡ left.old.items ++ filter (leaves entries.now) (told.now ∷ [])) }
+/// Takes in that a port is opened again by the next event, if one is: nobody has received there yet.
+fn note_life(pids: &mut ByPort<u8>, entries: &ShortEntries, told: &Told)
+    ensures { (p : PortNumber) → things_on pids.new p ≡ begun entries.now told.now p (things_on pids.old p) }
 {
-    if leaves(entries, told) {
-        left.push(*told)?;
+    if let Some(port) = reopened_port(entries, told) {
+        pids.clear(port);
     }
-    Ok(())
 }
 
 /// Whether all these processes have left.
@@ -88,10 +87,11 @@ impl Receivers {
         told: &Told,
         port: Option<Port>,
     ) -> Result<(), AllocError>
-        requires { (p : PortNumber) → receivers entries.now (told.now ∷ []) p ≡ got_there p port told.now.event.pid.0 }
+        requires { (p : PortNumber) → receiver_by entries.now told.now p ≡ got_there p port told.now.event.pid.0 }
         ensures { OnOk result ((before : List Event) → AreReceivers entries.now before self.old
             → AreReceivers entries.now (before ++ told.now ∷ []) self.new) }
     {
+        note_life(&mut self.pids, entries, told);
         note_receiver(&mut self.pids, port, told.event.pid.0)?;
         note_leaver(&mut self.left, entries, told)?;
         Ok(())
@@ -115,7 +115,7 @@ impl Receivers {
         Ok(noted)
     }
 
-    /// Whether somebody received from the port, and all who did have left.
+    /// Whether somebody received from the port in its present life, and all who did have left.
     pub fn are_gone(&self, port: Port) -> bool
         ensures { result ≡ are_gone self.now.left.items (things_on self.now.pids port) }
     {

@@ -1,7 +1,7 @@
 //! The story of a journal: what it tells, and what follows from that.
 
-ghost use Rattle.std.specs.Prelude.{◌≡◌, ◌<◌, ◌-◌, ◌^◌, false, length, IfOk};
-ghost use Rattle.hub_base.specs.Head.{IsHead, has_lives};
+ghost use Rattle.std.specs.Prelude.{◌≡◌, ◌<◌, ◌-◌, ◌^◌, length, IfOk};
+ghost use Rattle.hub_base.specs.Head.{IsHead};
 ghost use Rattle.hub_story.specs.Ends.{ended_at};
 ghost use Rattle.hub_story.specs.Levels.{received_by, sent_by};
 ghost use Rattle.hub_story.specs.Outside.{outside};
@@ -32,13 +32,10 @@ pub struct Story {
     pub waiting: Vec<Told>,
 }
 
-/// The story of a journal of 1 to `MOST_PROCS` processes, in which nobody comes back: it says who has left and which ports
-/// were closed as if that lasted, so a journal of the third edition has none (`Edition::has_lives`). Its entries are
-/// stepped once, and none is copied; the journal need not be legal. `Err` where memory was refused; 2^32 events or more
-/// are taken for that.
+/// The story of a journal of 1 to `MOST_PROCS` processes. Its entries are stepped once, and none is copied; the journal need
+/// not be legal. `Err` where memory was refused; 2^32 events or more are taken for that.
 pub fn story_of(alloc: Global, journal: &ShortJournal) -> Result<Story, NoMemory>
     requires head { IsHead journal.now.head }
-    requires lasts { has_lives journal.now.head.edition ≡ false }
     requires few { length journal.now.entries < 2 ^ 32 - 1 }
     ensures { IfOk result (λ story. IsStoryOf journal.now story) }
 {
@@ -93,7 +90,8 @@ impl Story {
         stalled_by(alloc, &self.told, place)
     }
 
-    /// The processes that are outside the hub when this journal ends, by number: those that have neither exited nor wait.
+    /// The processes that are outside the hub when this journal ends, by number: those that do not wait, and have not
+    /// exited or were started again.
     pub fn outside(
         &self,
         alloc: Global,

@@ -1,11 +1,14 @@
--- Who closed a port.
-use Rattle.std.specs.Prelude.{◌==◌, Bool, false, List, Option, None, Some, find, is_some, slice_get, if◌then◌else◌}
+-- Who opened a port again last, and who closed it since.
+use Rattle.std.specs.Prelude.{◌==◌, ◌||◌, Bool, false, List, Option, None, Some, is_some, slice_get, if◌then◌else◌}
+use Rattle.std.specs.List.{fold}
 use Rattle.std.specs.Option.{option_and_then, option_map_or}
 use Rattle.hub_base.specs.declared.value.Port.{Port}
 use Rattle.hub_base.specs.Entry.{Entry, Step}
 use Rattle.hub_base.specs.declared.entry.Step.TheVariants.{Close}
 use Rattle.hub_story.specs.declared.told.Told.{Told}
 use Rattle.hub_story.specs.Leavers.{is_done}
+use Rattle.hub_story.specs.Lives.{reopened_port, reopens}
+use Rattle.hub_story_text.specs.declared.closers.Turns.{Turns}
 
 abbrev pub port_closed : Step → Option Port
 port_closed (Close p) = Some p
@@ -15,14 +18,24 @@ port_closed other = None
 abbrev pub closed_port : List Entry → Told → Option Port
 closed_port es t = if is_done t.event.what then option_and_then (λ e. port_closed e.step) (slice_get es t.asked) else None
 
--- it is one
-abbrev pub is_close : List Entry → Told → Bool
-is_close es t = is_some (closed_port es t)
-
 -- it is this one
 abbrev pub closes : List Entry → Port → Told → Bool
 closes es p t = option_map_or (λ q. q.0 == p.0) (closed_port es t) false
 
--- by what a port was closed, if it was
-abbrev pub closer_of : List Entry → List Told → Port → Option Told
-closer_of es all p = find (closes es p) all
+-- the event says that a port was closed, or opened again
+abbrev pub is_turn : List Entry → Told → Bool
+is_turn es t = is_some (closed_port es t) || is_some (reopened_port es t)
+
+-- nobody has closed it, or opened it again
+abbrev pub no_turns : Turns
+no_turns = record { reopened = None; closed = None }
+
+-- after one event more
+abbrev pub with_turn : List Entry → Port → Turns → Told → Turns
+with_turn es p turns t =
+    if closes es p t then record { reopened = turns.reopened; closed = Some t }
+    else if reopens es p t then record { reopened = Some t; closed = None } else turns
+
+-- of all that is told
+abbrev pub turns_on : List Entry → List Told → Port → Turns
+turns_on es all p = fold (with_turn es p) no_turns all

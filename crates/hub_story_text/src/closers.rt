@@ -1,12 +1,22 @@
-//! Who closed a port.
+//! Who opened a port again last, and who closed it since.
 
-ghost use Rattle.std.specs.Prelude.{◌≡◌, IfOk, filter};
-ghost use Rattle.hub_story_text.specs.Closers.{closed_port, closer_of, closes, is_close, port_closed};
+ghost use Rattle.std.specs.Prelude.{◌≡◌, ◌==◌, IfOk, false, filter};
+ghost use Rattle.std.specs.Option.{option_map_or};
+ghost use Rattle.hub_story_text.specs.Closers.{closed_port, is_turn, port_closed, turns_on, with_turn};
 
 use hub_base::{Port, Step, StepRef, What};
 use hub_core::{CaseRoom, ShortEntries};
-use hub_story::Told;
+use hub_story::{Told, reopened_port};
 use std::alloc::{AllocError, Global};
+
+/// What says so of a port.
+#[derive(Clone, Copy)]
+pub(crate) struct Turns {
+    /// That it was opened again, the last time.
+    pub reopened: Option<Told>,
+    /// That it was closed since.
+    pub closed: Option<Told>,
+}
 
 /// The port that the step closes.
 fn port_closed(step: &StepRef<'_>) -> Option<Port>
@@ -32,41 +42,69 @@ fn closed_port(entries: &ShortEntries, told: &Told) -> Option<Port>
     }
 }
 
-/// Whether it is this one.
-fn closes(entries: &ShortEntries, port: Port, told: &Told) -> bool
-    ensures { result ≡ closes entries.now port told.now }
+/// Whether the event says that a port was closed, or opened again.
+fn is_turn(entries: &ShortEntries, told: &Told) -> bool
+    ensures { result ≡ is_turn entries.now told.now }
 {
-    match closed_port(entries, told) {
-        Some(closed) => closed.0 == port.0,
-        None => false,
-    }
+    closed_port(entries, told).is_some() || reopened_port(entries, told).is_some()
 }
 
-/// The closes that were done, in order.
-pub(crate) fn closes_of(
+/// The events that say so, in order.
+pub(crate) fn turns_of(
     alloc: Global,
     entries: &ShortEntries,
     told: &[Told],
 ) -> Result<Vec<Told>, AllocError>
-    ensures { IfOk result (λ closes. closes.items ≡ filter (is_close entries.now) told.now) }
+    ensures { IfOk result (λ turns. turns.items ≡ filter (is_turn entries.now) told.now) }
 {
-    let mut closes = Vec::new(alloc);
+    let mut turns = Vec::new(alloc);
     for told in told {
-        if closed_port(entries, told).is_some() {
-            closes.push(*told)?;
+        if is_turn(entries, told) {
+            turns.push(*told)?;
         }
     }
-    Ok(closes)
+    Ok(turns)
 }
 
-/// The first of these events that says that this port was closed.
-pub(crate) fn closer_of(entries: &ShortEntries, told: &[Told], port: Port) -> Option<Told>
-    ensures { result ≡ closer_of entries.now told.now port }
+/// Whether a port was found, and is this one.
+fn is_on(found: Option<Port>, port: Port) -> bool
+    ensures { result ≡ option_map_or (λ q. q.0 == port.0) found false }
 {
-    for told in told {
-        if closes(entries, port, told) {
-            return Some(*told);
-        }
+    match found {
+        Some(found) => found.0 == port.0,
+        None => false,
     }
-    None
+}
+
+/// What says so of this port, by one event more.
+fn with_turn(entries: &ShortEntries, port: Port, turns: Turns, told: &Told) -> Turns
+    ensures { result ≡ with_turn entries.now port turns told.now }
+{
+    if is_on(closed_port(entries, told), port) {
+        return Turns {
+            reopened: turns.reopened,
+            closed: Some(*told),
+        };
+    }
+    if is_on(reopened_port(entries, told), port) {
+        return Turns {
+            reopened: Some(*told),
+            closed: None,
+        };
+    }
+    turns
+}
+
+/// Which of these events say so of this port.
+pub(crate) fn turns_on(entries: &ShortEntries, told: &[Told], port: Port) -> Turns
+    ensures { result ≡ turns_on entries.now told.now port }
+{
+    let mut turns = Turns {
+        reopened: None,
+        closed: None,
+    };
+    for told in told {
+        turns = with_turn(entries, port, turns, told);
+    }
+    turns
 }

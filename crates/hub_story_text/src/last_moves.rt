@@ -4,7 +4,7 @@ ghost use Rattle.std.specs.Prelude.{◌≡◌, ◌<◌, ◌∷◌, ◌++◌, Lis
 ghost use Rattle.hub_base.specs.declared.value.Port.{Port as PortNumber};
 ghost use Rattle.hub_base.specs.Entry.{Entry};
 ghost use Rattle.hub_story.specs.declared.told.Told.{Told as Event};
-ghost use Rattle.hub_story.specs.Receivers.{AreReceivers, got_there, receivers};
+ghost use Rattle.hub_story.specs.Receivers.{AreReceivers, got_there, receiver_by};
 ghost use Rattle.hub_story_text.specs.LastMoves.{AreLast, AreNext, IsWhole, known_at, mover_at, with_mover};
 
 use hub_base::{Pid, Port, What};
@@ -28,7 +28,7 @@ pub struct LastMoves {
     pub sent: Vec<Option<Mover>>,
     /// Who was the last to receive a value.
     pub received: Vec<Option<Mover>>,
-    /// Who received values, and who has left.
+    /// Who received values since the port was made or opened again, and who has left.
     pub receivers: Receivers,
 }
 
@@ -39,7 +39,7 @@ pub struct AtPort {
     pub sender: Option<Mover>,
     /// Who was the last to receive a value.
     pub receiver: Option<Mover>,
-    /// Whether somebody received there, and all who did have left.
+    /// Whether somebody received there since it was made or opened again, and all who did have left.
     pub gone: bool,
 }
 
@@ -70,7 +70,7 @@ impl LastMoves {
     fn note_mover(&mut self, entries: &ShortEntries, told: &Told) -> Option<Port>
         requires { IsWhole self.old }
         ensures next { AreNext entries.now told.now self.old self.new }
-        ensures port { (p : PortNumber) → receivers entries.now (told.now ∷ []) p ≡ got_there p result told.now.event.pid.0 }
+        ensures port { (p : PortNumber) → receiver_by entries.now told.now p ≡ got_there p result told.now.event.pid.0 }
         ensures receivers { self.new.receivers ≡ self.old.receivers }
         ensures whole { IsWhole self.new }
     {

@@ -1,15 +1,15 @@
-//! What each port that was made carried, and by whom it was made and closed.
+//! What each port that was made carried, and by whom it was made, opened again and closed.
 
 ghost use Rattle.std.specs.Prelude.{◌≡◌, ◌++◌, filter, length, slice_get, OnOk, []};
 ghost use Rattle.std.specs.List.{flat_map};
 ghost use Rattle.std.specs.Option.{option_map_or};
 ghost use Rattle.hub_story.specs.Levels.{told_by};
 ghost use Rattle.hub_story.specs.Stories.{IsFrom};
-ghost use Rattle.hub_story_text.specs.Closers.{is_close};
+ghost use Rattle.hub_story_text.specs.Closers.{is_turn};
 ghost use Rattle.hub_story_text.specs.PortMoves.{AreMoves};
-ghost use Rattle.hub_story_text.specs.PortText.{by_words, cap_words, closer_words, counts_words, made_line, most_words, port_line};
+ghost use Rattle.hub_story_text.specs.PortText.{by_words, cap_words, counts_words, made_line, most_words, opened_at, port_line, turn_words};
 
-use crate::closers::{closer_of, closes_of};
+use crate::closers::{Turns, turns_of, turns_on};
 use crate::fullest::Fullest;
 use crate::numbers::{number_of, put_number};
 use crate::port_moves::PortMoves;
@@ -18,7 +18,7 @@ use hub_core::{CaseRoom, ShortJournal};
 use hub_story::{Level, Story, Told};
 use std::alloc::AllocError;
 
-/// Appends the capacity of the port that the entry at this place made.
+/// Appends the capacity with which the entry at this place made a port, or opened it again.
 fn put_cap(out: &mut Vec<u8>, journal: &ShortJournal, place: u32) -> Result<(), AllocError>
     ensures { OnOk result (out.new.items ≡
         out.old.items ++ option_map_or (λ e. cap_words e.step) (slice_get journal.now.entries place) []) }
@@ -29,6 +29,7 @@ fn put_cap(out: &mut Vec<u8>, journal: &ShortJournal, place: u32) -> Result<(), 
     };
     match entry.step {
         Step::Make(cap) => put_number(out, b" cap ", cap.into()),
+        Step::Reopen { cap, .. } => put_number(out, b" cap ", cap.into()),
         _ => Ok(()),
     }
 }
@@ -65,13 +66,23 @@ fn put_by(out: &mut Vec<u8>, words: &[u8], told: &Told) -> Result<(), AllocError
     put_number(out, b" at step ", number_of(told.asked))
 }
 
-/// Appends by whom a port was closed, if it was.
-fn put_closer(out: &mut Vec<u8>, closer: Option<Told>) -> Result<(), AllocError>
-    ensures { OnOk result (out.new.items ≡ out.old.items ++ closer_words closer) }
+/// Appends by whom, behind these words, where there is such an event.
+fn put_turn(out: &mut Vec<u8>, words: &[u8], told: Option<Told>) -> Result<(), AllocError>
+    ensures { OnOk result (out.new.items ≡ out.old.items ++ turn_words words.now told) }
 {
-    match closer {
-        Some(told) => put_by(out, b" closed by P", &told),
+    match told {
+        Some(told) => put_by(out, words, &told),
         None => Ok(()),
+    }
+}
+
+/// The place of the step that opened the port last, which this event says was made.
+fn opened_at(made: &Told, reopened: Option<Told>) -> u32
+    ensures { result ≡ opened_at made.now reopened }
+{
+    match reopened {
+        Some(told) => told.asked,
+        None => made.asked,
     }
 }
 
@@ -81,23 +92,25 @@ fn put_port(
     journal: &ShortJournal,
     story: &Story,
     moves: &PortMoves,
-    closes: &[Told],
+    turns: &[Told],
     told: &Told,
     port: Port,
 ) -> Result<(), AllocError>
     requires whole { told_by (length journal.now.entries) story.now.told.items ≡ story.now.told.items }
     requires moves { AreMoves journal.now.entries story.now.told.items moves.now }
     requires order { IsFrom 0 story.now.told.items }
-    requires closes { closes.now ≡ filter (is_close journal.now.entries) story.now.told.items }
+    requires turns { turns.now ≡ filter (is_turn journal.now.entries) story.now.told.items }
     ensures { OnOk result (out.new.items ≡
         out.old.items ++ port_line journal.now.entries story.now.told.items told.now port) }
 {
+    let Turns { reopened, closed } = turns_on(journal.entries(), turns, port);
     put_number(out, b"port ", port.0.into())?;
-    put_cap(out, journal, told.asked)?;
+    put_cap(out, journal, opened_at(told, reopened))?;
     put_counts(out, moves.level(port))?;
     put_most(out, moves.fullest(*out.allocator(), port)?)?;
     put_by(out, b" made by P", told)?;
-    put_closer(out, closer_of(journal.entries(), closes, port))?;
+    put_turn(out, b" reopened by P", reopened)?;
+    put_turn(out, b" closed by P", closed)?;
     out.extend_from_slice(b"\n")?;
     Ok(())
 }
@@ -115,10 +128,10 @@ pub(crate) fn put_ports(
     ensures { OnOk result (out.new.items ≡ out.old.items
         ++ flat_map (λ t. made_line journal.now.entries story.now.told.items t t.event.what) story.now.told.items) }
 {
-    let closes = closes_of(*out.allocator(), journal.entries(), &story.told)?;
+    let turns = turns_of(*out.allocator(), journal.entries(), &story.told)?;
     for told in &story.told {
         if let What::Made(port) = told.event.what {
-            put_port(out, journal, story, moves, &closes, told, port)?;
+            put_port(out, journal, story, moves, &turns, told, port)?;
         }
     }
     Ok(())

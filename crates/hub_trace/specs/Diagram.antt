@@ -1,13 +1,15 @@
--- A sequence diagram for Mermaid: a participant for each process and for each port that has room for values; and for what each step
+-- A sequence diagram for Mermaid: a participant for each process and for each port that ever has room for values; and for what each step
 -- tells, in order, an arrow for a value that moved, or else a note. Steps are printed by their numbers, counted from 1.
 use Rattle.std.specs.Prelude.{ℕ, ◌+◌, ◌==◌, ◌&&◌, nat_lt, Bool, true, false, List, [], ◌∷◌, ◌++◌, codes, decimal, filter, find}
 use Rattle.std.specs.Prelude.{Option, None, Some, slice_get, if◌then◌else◌}
 use Rattle.std.specs.List.{filter_map, flat_map}
 use Rattle.std.specs.Option.{option_map_or}
+use Rattle.hub_base.specs.declared.value.Pid.{Pid}
 use Rattle.hub_base.specs.declared.value.Port.{Port}
 use Rattle.hub_base.specs.Entry.{Entry}
 use Rattle.hub_base.specs.Value.{value_field}
 use Rattle.hub_story.specs.declared.told.Told.{Told}
+use Rattle.hub_story.specs.Leavers.{comes_back}
 use Rattle.hub_story.specs.declared.window.Window.{Window}
 use Rattle.hub_story.specs.Windows.{has}
 use Rattle.hub_trace.specs.declared.moves.Move.{Move}
@@ -72,15 +74,25 @@ abbrev pub move_text : List Entry → List Told → List Port → Told → Move 
 move_text es shown ports t m = move_by_way es shown t m (has_room ports m.port) m.way
 
 -- ---- notes
+-- over the process that is told so, and over the one that it started again, if it did
+abbrev pub started_text : Option Pid → List ℕ
+started_text None = []
+started_text (Some q) = codes ",P" ++ decimal q.0
+
+abbrev pub over_text : Told → Option Pid → List ℕ
+over_text t started = codes "    Note over P" ++ decimal t.event.pid.0 ++ started_text started
+
 -- what a process asked, and what it is told of that: `Note over P1: 2: recv 1, parked`
-abbrev pub note_of : Told → Entry → List ℕ
-note_of t e =
+abbrev pub said_text : Told → Entry → List ℕ
+said_text t e =
     joined (
-    codes "    Note over P" ∷ decimal t.event.pid.0
-    ∷ codes ": " ∷ decimal (t.by + 1) ∷ codes ": " ∷ asked_words e ∷ codes ", " ∷ told_words t.event.what ∷ codes "\n" ∷ [])
+    codes ": " ∷ decimal (t.by + 1) ∷ codes ": " ∷ asked_words e ∷ codes ", " ∷ told_words t.event.what ∷ codes "\n" ∷ [])
+
+abbrev pub note_of : Told → Option Pid → Entry → List ℕ
+note_of t started e = over_text t started ++ said_text t e
 
 abbrev pub note_text : List Entry → Told → List ℕ
-note_text es t = option_map_or (note_of t) (slice_get es t.asked) []
+note_text es t = option_map_or (note_of t (comes_back es t)) (slice_get es t.asked) []
 
 -- ---- all
 -- of an event its arrow, or its note
@@ -108,6 +120,6 @@ events_text es shown ports = flat_map (λ t. escaped (event_text es shown ports 
 -- of so many processes, these entries and all that is told of them, the steps that the window has
 abbrev pub mermaid_text : Window → ℕ → List Entry → List Told → List ℕ
 mermaid_text w procs es all =
-    let ports = filter_map (made_with_room es) all in
+    let ports = filter_map (made_with_room es all) all in
     codes "sequenceDiagram\n" ++ below process_text procs ++ flat_map port_text ports
     ++ events_text es (filter (is_shown w procs) all) ports

@@ -3,7 +3,7 @@ use Rattle.std.specs.Prelude.{ℕ, ◌+◌, ◌-◌, nat_lt, Bool, true, false, 
 use Rattle.std.specs.List.{flat_map}
 use Rattle.std.specs.Option.{option_map_or}
 use Rattle.hub_base.specs.Entry.{Entry, Step}
-use Rattle.hub_base.specs.declared.entry.Step.TheVariants.{Close}
+use Rattle.hub_base.specs.declared.entry.Step.TheVariants.{Close, Start, Reopen}
 use Rattle.hub_base.specs.declared.event.What.{What}
 use Rattle.hub_base.specs.declared.event.What.TheVariants as what
 use Rattle.hub_laws.specs.Replies.{is_parked}
@@ -45,21 +45,29 @@ abbrev pub ended_text : Told → Entry → List ℕ
 ended_text t e = if is_parked t.event.what then [] else slice_text (kind_of t) (t.by + 1) t e
 
 -- ---- marks
-abbrev pub is_close : Step → Bool
-is_close (Close p) = true
-is_close other = false
+-- it closes a port or opens it again, or starts a process again
+abbrev pub is_turn : Step → Bool
+is_turn (Close p) = true
+is_turn (Reopen p cap) = true
+is_turn (Start q) = true
+is_turn other = false
 
--- calls that were stalled or cancelled have one, and closes
+-- calls that were stalled or cancelled have one, and such steps
 abbrev pub is_marked : Step → What → Bool
 is_marked s what.Stalled = true
 is_marked s what.Cancelled = true
-is_marked s what.Done = is_close s
+is_marked s what.Done = is_turn s
 is_marked s other = false
+
+-- where it stands: where the process is that was started, or else the one that is told so
+abbrev pub marked_process : ℕ → Step → ℕ
+marked_process n (Start q) = q.0
+marked_process n other = n
 
 abbrev pub mark_text : Told → Entry → List ℕ
 mark_text t e =
     joined (
-    codes "{\"ph\":\"i\",\"s\":\"t\",\"pid\":1,\"tid\":" ∷ decimal t.event.pid.0
+    codes "{\"ph\":\"i\",\"s\":\"t\",\"pid\":1,\"tid\":" ∷ decimal (marked_process t.event.pid.0 e.step)
     ∷ codes ",\"ts\":" ∷ decimal (t.by + 1)
     ∷ codes ",\"name\":\"" ∷ asked_words e
     ∷ codes ", " ∷ told_words t.event.what

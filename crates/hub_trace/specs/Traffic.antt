@@ -9,6 +9,7 @@ use Rattle.hub_base.specs.declared.event.What.{What}
 use Rattle.hub_base.specs.declared.event.What.TheVariants as what
 use Rattle.hub_story.specs.declared.levels.Level.{Level}
 use Rattle.hub_story.specs.declared.told.Told.{Told}
+use Rattle.hub_story.specs.Lives.{most_room}
 use Rattle.hub_trace.specs.declared.moves.Move.{Move}
 use Rattle.hub_trace.specs.declared.moves.Way.{Way}
 use Rattle.hub_trace.specs.declared.moves.Way.TheVariants.{Into, OutOf}
@@ -16,7 +17,6 @@ use Rattle.hub_trace.specs.declared.traffic.Moved.{Moved}
 use Rattle.hub_trace.specs.declared.traffic.Passage.{Passage}
 use Rattle.hub_trace.specs.Moves.{move_of}
 use Rattle.hub_trace.specs.Pieces.{joined}
-use Rattle.hub_trace.specs.Ports.{room_at}
 
 -- ---- what moved
 -- a value moved through this port
@@ -96,7 +96,7 @@ port_text p capacity ms =
 
 -- of the port that is told to be made
 abbrev pub made_by : List Entry → List Told → ℕ → What → List ℕ
-made_by es all place (what.Made p) = port_text p (room_at es place) (filter_map (moved_on es p) all)
+made_by es all place (what.Made p) = port_text p (most_room es all p place) (filter_map (moved_on es p) all)
 made_by es all place other = []
 
 abbrev pub made_text : List Entry → List Told → Told → List ℕ

@@ -3,7 +3,7 @@
 ghost use Rattle.std.specs.Prelude.{◌≡◌, ◌++◌, filter, find, IfOk, OnOk};
 ghost use Rattle.std.specs.List.{flat_map};
 ghost use Rattle.hub_trace.specs.Diagram.{escape, event_text, from_port_text, handed_text, into_port_text, is_shown, mermaid_text};
-ghost use Rattle.hub_trace.specs.Diagram.{move_text, note_of, note_text, port_text, process_text, sends_by};
+ghost use Rattle.hub_trace.specs.Diagram.{move_text, note_of, note_text, over_text, port_text, process_text, said_text, sends_by};
 
 mod body;
 
@@ -13,9 +13,9 @@ use crate::moves::{Move, Way, move_of};
 use crate::pen::Pen;
 use crate::pieces::{Piece, number_of, put_pieces};
 use crate::ports::has_room;
-use hub_base::{EntryRef, NoMemory, Port};
+use hub_base::{EntryRef, NoMemory, Pid, Port};
 use hub_core::{CaseRoom, ShortEntries, ShortJournal};
-use hub_story::{Story, Told};
+use hub_story::{Story, Told, comes_back};
 use hub_story_text::PackedText;
 use std::alloc::{AllocError, Global};
 
@@ -132,15 +132,32 @@ fn put_handed(
     )
 }
 
-/// Appends a note of what a process is told of this entry.
-fn put_note_of(out: &mut Vec<u8>, told: &Told, entry: &EntryRef<'_>) -> Result<(), NoMemory>
-    ensures { OnOk result (out.new.items ≡ out.old.items ++ note_of told.now entry.now) }
+/// Appends over which processes a note stands: over the one that is told it, and over one that it started again.
+fn put_over(out: &mut Vec<u8>, told: &Told, started: Option<Pid>) -> Result<(), NoMemory>
+    ensures { OnOk result (out.new.items ≡ out.old.items ++ over_text told.now started) }
+{
+    let own = Piece::Number(told.event.pid.0.into());
+    match started {
+        Some(pid) => put_pieces(
+            out,
+            &[
+                Piece::Word(b"    Note over P"),
+                own,
+                Piece::Word(b",P"),
+                Piece::Number(pid.0.into()),
+            ],
+        ),
+        None => put_pieces(out, &[Piece::Word(b"    Note over P"), own]),
+    }
+}
+
+/// Appends what a process asked, and what it is told of that.
+fn put_said(out: &mut Vec<u8>, told: &Told, entry: &EntryRef<'_>) -> Result<(), NoMemory>
+    ensures { OnOk result (out.new.items ≡ out.old.items ++ said_text told.now entry.now) }
 {
     put_pieces(
         out,
         &[
-            Piece::Word(b"    Note over P"),
-            Piece::Number(told.event.pid.0.into()),
             Piece::Word(b": "),
             Piece::Number(number_of(told.by)),
             Piece::Word(b": "),
@@ -152,13 +169,28 @@ fn put_note_of(out: &mut Vec<u8>, told: &Told, entry: &EntryRef<'_>) -> Result<(
     )
 }
 
+/// Appends a note of what a process is told of this entry, by which it started another one again or not.
+fn put_note_of(
+    out: &mut Vec<u8>,
+    told: &Told,
+    started: Option<Pid>,
+    entry: &EntryRef<'_>,
+) -> Result<(), NoMemory>
+    ensures { OnOk result (out.new.items ≡ out.old.items ++ note_of told.now started entry.now) }
+{
+    put_over(out, told, started)?;
+    put_said(out, told, entry)?;
+    Ok(())
+}
+
 /// Appends a note of what a process is told, and of which of its entries.
 fn put_note(out: &mut Vec<u8>, entries: &ShortEntries, told: &Told) -> Result<(), NoMemory>
     ensures { OnOk result (out.new.items ≡ out.old.items ++ note_text entries.now told.now) }
 {
+    let started = comes_back(entries, told);
     let mut room = CaseRoom::new();
     match entries.get(told.asked as usize, &mut room) {
-        Some(entry) => put_note_of(out, told, &entry),
+        Some(entry) => put_note_of(out, told, started, &entry),
         None => Ok(()),
     }
 }
@@ -284,8 +316,8 @@ fn shown_of(
     Ok(shown)
 }
 
-/// The steps that the window has as a sequence diagram for Mermaid: a participant for each process and for each port that has
-/// room, an arrow for each value that moved, and a note for each other event. Steps are counted from 1. `Err` where memory was
+/// The steps that the window has as a sequence diagram for Mermaid: a participant for each process and for each port that
+/// ever has room, an arrow for each value that moved, and a note for each other event. Steps are counted from 1. `Err` where memory was
 /// refused.
 pub fn mermaid_text(
     alloc: Global,

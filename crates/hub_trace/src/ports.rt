@@ -2,33 +2,12 @@
 
 ghost use Rattle.std.specs.Prelude.{◌≡◌, IfOk};
 ghost use Rattle.std.specs.List.{filter_map};
-ghost use Rattle.hub_trace.specs.Ports.{has_room, made_with_room, room_at, room_of, with_room};
+ghost use Rattle.hub_trace.specs.Ports.{has_room, made_with_room, with_room};
 
-use hub_base::{Port, Step, StepRef, What};
-use hub_core::{CaseRoom, ShortEntries};
-use hub_story::Told;
+use hub_base::{Port, What};
+use hub_core::ShortEntries;
+use hub_story::{Told, most_room};
 use std::alloc::{AllocError, Global};
-
-/// How many values the port has room for that this step makes.
-fn room_of(step: &StepRef<'_>) -> u32
-    ensures { result ≡ room_of step.now }
-{
-    match step {
-        Step::Make(cap) => *cap,
-        _ => 0,
-    }
-}
-
-/// The same of the entry at this place.
-pub(crate) fn room_at(entries: &ShortEntries, place: u32) -> u32
-    ensures { result ≡ room_at entries.now place }
-{
-    let mut cases = CaseRoom::new();
-    match entries.get(place as usize, &mut cases) {
-        Some(entry) => room_of(&entry.step),
-        None => 0,
-    }
-}
 
 /// The port, where it has room.
 fn with_room(port: Port, room: u32) -> Option<Port>
@@ -37,12 +16,12 @@ fn with_room(port: Port, room: u32) -> Option<Port>
     if room == 0 { None } else { Some(port) }
 }
 
-/// The port with room that is told to be made.
-pub(crate) fn made_with_room(entries: &ShortEntries, told: &Told) -> Option<Port>
-    ensures { result ≡ made_with_room entries.now told.now }
+/// The port with room that is told to be made by one of these events.
+fn made_with_room(entries: &ShortEntries, all: &[Told], told: &Told) -> Option<Port>
+    ensures { result ≡ made_with_room entries.now all.now told.now }
 {
     match told.event.what {
-        What::Made(port) => with_room(port, room_at(entries, told.asked)),
+        What::Made(port) => with_room(port, most_room(entries, all, port, told.asked)),
         _ => None,
     }
 }
@@ -51,13 +30,13 @@ pub(crate) fn made_with_room(entries: &ShortEntries, told: &Told) -> Option<Port
 pub(crate) fn ports_with_room(
     alloc: Global,
     entries: &ShortEntries,
-    told: &[Told],
+    all: &[Told],
 ) -> Result<Vec<Port>, AllocError>
-    ensures { IfOk result (λ ports. ports.items ≡ filter_map (made_with_room entries.now) told.now) }
+    ensures { IfOk result (λ ports. ports.items ≡ filter_map (made_with_room entries.now all.now) all.now) }
 {
     let mut ports = Vec::new(alloc);
-    for told in told {
-        if let Some(port) = made_with_room(entries, told) {
+    for told in all {
+        if let Some(port) = made_with_room(entries, all, told) {
             ports.push(port)?;
         }
     }

@@ -2,7 +2,7 @@
 
 ghost use Rattle.std.specs.Prelude.{◌≡◌, ◌++◌, IfOk, OnOk};
 ghost use Rattle.hub_story.specs.Stories.{IsStoryOf};
-ghost use Rattle.hub_trace.specs.Trace.{event_text, ended_text, is_marked, kind_of, mark_text, marked_text, name_text, slice_text, still_text};
+ghost use Rattle.hub_trace.specs.Trace.{event_text, ended_text, is_marked, kind_of, mark_text, marked_process, marked_text, name_text, slice_text, still_text};
 ghost use Rattle.hub_trace.specs.Trace.{told_text, trace_text};
 
 mod body;
@@ -103,8 +103,18 @@ fn is_marked(step: &StepRef<'_>, what: What) -> bool
 {
     match what {
         What::Stalled | What::Cancelled => true,
-        What::Done => matches!(step, Step::Close(_)),
+        What::Done => matches!(step, Step::Close(_) | Step::Reopen { .. } | Step::Start(_)),
         _ => false,
+    }
+}
+
+/// Where the mark of this process's step stands.
+fn marked_process(pid: u8, step: &StepRef<'_>) -> u8
+    ensures { result ≡ marked_process pid step.now }
+{
+    match step {
+        Step::Start(started) => started.0,
+        _ => pid,
     }
 }
 
@@ -116,7 +126,7 @@ fn put_mark(out: &mut Vec<u8>, told: &Told, entry: &EntryRef<'_>) -> Result<(), 
         out,
         &[
             Piece::Word(b"{\"ph\":\"i\",\"s\":\"t\",\"pid\":1,\"tid\":"),
-            Piece::Number(told.event.pid.0.into()),
+            Piece::Number(marked_process(told.event.pid.0, &entry.step).into()),
             Piece::Word(b",\"ts\":"),
             Piece::Number(number_of(told.by)),
             Piece::Word(b",\"name\":\""),
@@ -179,9 +189,9 @@ impl Pen<Told> for Waiting<'_> {
     }
 }
 
-/// A journal as a trace in Chrome's format, a step being a microsecond: a slice for each entry until it ended, a mark for each
-/// call that was stalled or cancelled and for each close; and for each port the values that went through it, as flows, and how
-/// many it held. Steps are counted from 1. `Err` where memory was refused.
+/// A journal as a trace in Chrome's format, a step being a microsecond: a slice for each entry until it ended; a mark for each
+/// call that was stalled or cancelled, for each close and reopen, and where a process is started again; and for each port the
+/// values that went through it, as flows, and how many it held. Steps are counted from 1. `Err` where memory was refused.
 pub fn trace_text(
     alloc: Global,
     journal: &ShortJournal,

@@ -9,10 +9,9 @@ ghost use Rattle.hub_trace.specs.Traffic.{port_text, shown_level};
 
 use crate::moves::{Way, move_of};
 use crate::pieces::{Piece, number_of, put_pieces};
-use crate::ports::room_at;
 use hub_base::{NoMemory, Pid, Port, What};
 use hub_core::ShortEntries;
-use hub_story::{ByPort, Level, Told};
+use hub_story::{ByPort, Level, Told, most_room};
 use hub_story_text::PackedText;
 use std::alloc::{AllocError, Global};
 
@@ -315,7 +314,7 @@ fn push_made(
 {
     match told.event.what {
         What::Made(port) => {
-            let capacity = room_at(traffic.entries, told.asked);
+            let capacity = most_room(traffic.entries, traffic.told, port, told.asked);
             push_port(out, room, port, capacity, traffic.on(port))
         }
         _ => Ok(()),

@@ -1,7 +1,7 @@
 //! `chanhub_tool mermaid [FROM [TO]] [FILE] [-o OUT]`.
 
-ghost use Rattle.std.specs.Prelude.{◌≡◌, ◌<◌, ◌-◌, ◌^◌, false, length, IfOk};
-ghost use Rattle.hub_base.specs.Head.{IsHead, has_lives};
+ghost use Rattle.std.specs.Prelude.{◌≡◌, ◌<◌, ◌-◌, ◌^◌, length, IfOk};
+ghost use Rattle.hub_base.specs.Head.{IsHead};
 ghost use Rattle.hub_story.specs.Told.{told};
 ghost use Rattle.hub_trace.specs.Diagram.{mermaid_text};
 
@@ -30,7 +30,6 @@ pub(crate) fn diagram_of(
     window: Window,
 ) -> Result<PackedText, NoMemory>
     requires head { IsHead journal.now.head }
-    requires lasts { has_lives journal.now.head.edition ≡ false }
     requires few { length journal.now.entries < 2 ^ 32 - 1 }
     ensures { IfOk result (λ text. text.items
         ≡ mermaid_text window journal.now.head.procs journal.now.entries (told journal.now.head journal.now.entries)) }

@@ -1,8 +1,8 @@
 //! `chanhub_tool page [FROM [TO]] [FILE] [-o OUT]`.
 
-ghost use Rattle.std.specs.Prelude.{◌≡◌, ◌<◌, ◌-◌, ◌^◌, false, length, IfErr, OnErr, OnOk};
+ghost use Rattle.std.specs.Prelude.{◌<◌, ◌-◌, ◌^◌, length, IfErr, OnErr, OnOk};
 ghost use Rattle.std.specs.Io.KnownBytes.{Appends};
-ghost use Rattle.hub_base.specs.Head.{IsHead, has_lives};
+ghost use Rattle.hub_base.specs.Head.{IsHead};
 ghost use Rattle.hub_replay.specs.Devices.{AppendsBeginning};
 ghost use Rattle.hub_story.specs.Told.{told};
 ghost use Rattle.hub_page.specs.Faults.{Fails};
@@ -33,7 +33,6 @@ pub(crate) fn write_page_of<W: Sink>(
     output: &mut W,
 ) -> Result<(), PageFault>
     requires head { IsHead journal.now.head }
-    requires lasts { has_lives journal.now.head.edition ≡ false }
     requires few { length journal.now.entries < 2 ^ 32 - 1 }
     ensures whole { OnOk result (Appends (W.contents output.old) (W.contents output.new)
         (page_text window journal.now.head journal.now.entries (told journal.now.head journal.now.entries))) }

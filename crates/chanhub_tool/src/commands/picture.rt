@@ -1,7 +1,7 @@
 //! `chanhub_tool picture [FROM [TO]] [FILE] [-o OUT]`.
 
-ghost use Rattle.std.specs.Prelude.{◌≡◌, ◌<◌, ◌-◌, ◌^◌, false, length, IfOk};
-ghost use Rattle.hub_base.specs.Head.{IsHead, has_lives};
+ghost use Rattle.std.specs.Prelude.{◌≡◌, ◌<◌, ◌-◌, ◌^◌, length, IfOk};
+ghost use Rattle.hub_base.specs.Head.{IsHead};
 ghost use Rattle.hub_picture.specs.Svg.Page.{svg_text};
 ghost use Rattle.chanhub_tool.specs.Explains.{IsPicture};
 
@@ -39,7 +39,6 @@ pub(crate) fn picture_of(
     window: Window,
 ) -> Result<PackedText, NoMemory>
     requires head { IsHead journal.now.head }
-    requires lasts { has_lives journal.now.head.edition ≡ false }
     requires few { length journal.now.entries < 2 ^ 32 - 1 }
     ensures { IfOk result (λ text. IsPicture window journal.now text.items) }
 {

@@ -1,7 +1,7 @@
 //! `chanhub_tool story [FROM [TO]] [FILE] [-o OUT] [--color WHEN]`.
 
-ghost use Rattle.std.specs.Prelude.{◌≡◌, ◌<◌, ◌-◌, ◌^◌, false, length, IfOk};
-ghost use Rattle.hub_base.specs.Head.{IsHead, has_lives};
+ghost use Rattle.std.specs.Prelude.{◌≡◌, ◌<◌, ◌-◌, ◌^◌, length, IfOk};
+ghost use Rattle.hub_base.specs.Head.{IsHead};
 ghost use Rattle.hub_story.specs.Told.{told};
 ghost use Rattle.hub_story_text.specs.StoryText.{painted_text};
 
@@ -117,7 +117,6 @@ pub(crate) fn story_of_steps(
     paint: Paint,
 ) -> Result<PackedText, NoMemory>
     requires head { IsHead journal.now.head }
-    requires lasts { has_lives journal.now.head.edition ≡ false }
     requires few { length journal.now.entries < 2 ^ 32 - 1 }
     ensures { IfOk result (λ text. text.items
         ≡ painted_text paint window journal.now.head journal.now.entries (told journal.now.head journal.now.entries)) }

@@ -1,7 +1,7 @@
 //! `chanhub_tool trace [FILE] [-o OUT]`.
 
-ghost use Rattle.std.specs.Prelude.{◌≡◌, ◌<◌, ◌-◌, ◌^◌, false, length, IfOk};
-ghost use Rattle.hub_base.specs.Head.{IsHead, has_lives};
+ghost use Rattle.std.specs.Prelude.{◌≡◌, ◌<◌, ◌-◌, ◌^◌, length, IfOk};
+ghost use Rattle.hub_base.specs.Head.{IsHead};
 ghost use Rattle.hub_story.specs.Told.{told};
 ghost use Rattle.hub_trace.specs.Trace.{trace_text};
 
@@ -26,7 +26,6 @@ pub(super) fn grammar<'a>(alloc: Global) -> Result<Command<'a>, AllocError> {
 /// The trace of a journal.
 pub(crate) fn trace_of(alloc: Global, journal: &ShortJournal) -> Result<PackedText, NoMemory>
     requires head { IsHead journal.now.head }
-    requires lasts { has_lives journal.now.head.edition ≡ false }
     requires few { length journal.now.entries < 2 ^ 32 - 1 }
     ensures { IfOk result (λ text. text.items
         ≡ trace_text journal.now.head.procs journal.now.entries (told journal.now.head journal.now.entries)) }

@@ -34,7 +34,7 @@ pub(super) const TEXT: &str = "</style>
 <dialog id=\"help\">
 <form method=\"dialog\"><button>Close</button></form>
 <h2>How to read and use this page</h2>
-<p>Each lane is a process, and each box on it a step: <b>m1</b> makes port 1, <b>s1:7</b> sends 7 there, <b>r1:7</b> receives it, <b>c1</b> closes the port; <b>def</b> is a default, <b>f5</b> fault 5. A bar is a call that waits, until its knob. An arrow is a value on its way. A shaded field is a deadlock, and the arrows beside it tell who perhaps waits for whom. The calls that it ends return <b>stalled</b>, and their processes may go on after it. The panel spells a step as its journal does: <b>5 recv 1</b> is process 5, which receives from port 1. The strips below show how many values a port holds. Steps on a pale field are not told on this page. Of many steps a lane shows how much its process waited (blue), how much it did (grey), and where it was stalled or refused (orange).</p>
+<p>Each lane is a process, and each box on it a step: <b>m1</b> makes port 1, <b>s1:7</b> sends 7 there, <b>r1:7</b> receives it, <b>c1</b> closes the port, and <b>o1</b> opens it again; <b>g2</b> starts process 2 again, whose lane begins anew; <b>def</b> is a default, <b>f5</b> fault 5. A bar is a call that waits, until its knob. An arrow is a value on its way. A shaded field is a deadlock, and the arrows beside it tell who perhaps waits for whom. The calls that it ends return <b>stalled</b>, and their processes may go on after it. The panel spells a step as its journal does: <b>5 recv 1</b> is process 5, which receives from port 1. The strips below show how many values a port holds. Steps on a pale field are not told on this page. Of many steps a lane shows how much its process waited (blue), how much it did (grey), and where it was stalled or refused (orange).</p>
 <table>
 <tr><td>wheel, <kbd>+</kbd> <kbd>-</kbd> <kbd>0</kbd></td><td>nearer, farther, all</td></tr>
 <tr><td>drag, shift and wheel, <kbd>&larr;</kbd> <kbd>&rarr;</kbd> <kbd>Home</kbd> <kbd>End</kbd></td><td>to other steps</td></tr>
@@ -63,6 +63,8 @@ pub(super) const TEXT: &str = "</style>
 <li>the journal is full</li>
 <li>out of memory</li>
 <li>that process does not wait</li>
+<li value=\"16\">the port is in use</li>
+<li>that process has not exited</li>
 </ol>
 </dialog>
 <svg width=\"0\" height=\"0\" aria-hidden=\"true\"><clipPath id=\"clip\"><rect x=\"62\" width=\"99999\" height=\"99999\"/></clipPath><marker id=\"tip\" viewBox=\"0 0 8 8\" refX=\"8\" refY=\"4\" markerUnits=\"userSpaceOnUse\" markerWidth=\"8\" markerHeight=\"8\" orient=\"auto\"><path d=\"M0,0L8,4L0,8z\" fill=\"context-stroke\"/></marker></svg>

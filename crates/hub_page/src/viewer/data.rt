@@ -3,8 +3,9 @@
 pub(super) const FIRST: &str =
     "// Reads the data of the page, as README.md defines them. Steps are counted from 0 here, and from 1 in what is shown. One that is not told is null.
 const BLOCK = 64, MOST_READ = 300, MOST_OWN = 1000, NEVER = 0xffffffff, STILL_WAITS = { by: Infinity, letter: \"\", number: 0 };
-const WORDS = { m: \"make\", s: \"send\", r: \"recv\", \"?\": \"select\", c: \"close\", x: \"cancel\", e: \"exit\" }, ENDS = { s: \"sent\", g: \"got\", d: \"drained\",
-    c: \"closed\", D: \"default\", k: \"done\", S: \"stalled\", x: \"cancelled\", m: \"made\", f: \"fault\", t: \"timed out\", w: \"woken\" };  // by the clock, or its own
+const WORDS = { m: \"make\", s: \"send\", r: \"recv\", \"?\": \"select\", c: \"close\", o: \"reopen\", x: \"cancel\", g: \"start\", e: \"exit\" };
+const ENDS = { s: \"sent\", g: \"got\", d: \"drained\", c: \"closed\", D: \"default\", k: \"done\", S: \"stalled\", x: \"cancelled\", m: \"made\", f: \"fault\",
+    t: \"timed out\", w: \"woken\" };  // by the clock, or its own
 const TABLES = { w: \"waited\", a: \"asked\", t: \"troubles\", o: \"open\", s: \"sent\", g: \"got\", m: \"most\" };  // by letters of sketches
 const pairs = (edges, of) => edges.slice(1).map((end, at) => of(edges[at], end, at));
 const numbers = (first, end) => Array.from({ length: Math.max(0, end - first) }, (_, at) => first + at);
@@ -33,16 +34,16 @@ class Step {
         return [this.pid, \"select\", /^\\d+/.exec(this.more), ...this.cases].join(\" \") + (this.more.endsWith(\"!\") ? \" default\" : \"\");
     }
     get answer() {
-        const { letter, number } = this.end, why = letter === \"f\" && `${number}: ${byId(\"faults\").children[number - 1].textContent}`;
+        const { letter, number } = this.end, why = letter === \"f\" && `${number}: ${byId(\"faults\").children[number - (number > 12 ? 4 : 1)].textContent}`;
         return [ENDS[letter] ?? \"waits to the end\", { g: readable(this.value) ?? \"a value\", m: number, f: why }[letter]].join(\" \").trim();
     }
     get title() { return `step ${this.place + 1}: ${this.line}\\n${this.answer}${this.waits ? \", waited \" + counted(this.waited, \"step\") : \"\"}`; }
-    get port() { return { f: 0, m: this.end.number }[this.end.letter] ?? (this.letter === \"c\" ? Number(this.more) : this.shown.port); }
+    get port() { return { f: 0, m: this.end.number }[this.end.letter] ?? (\"co\".includes(this.letter) ? parseInt(this.more) : this.shown.port); }
     get offers() { return this.cases.map((text) => text.split(\":\")[0]); }  // its cases without what they send
-    get ports() { return this.letter === \"c\" ? [Number(this.more)] : [this.port, ...this.offers.map((offer) => Number(offer.slice(1)))]; }
+    get ports() { return \"co\".includes(this.letter) ? [parseInt(this.more)] : [this.port, ...this.offers.map((offer) => Number(offer.slice(1)))]; }
     get label() {  // A short name, as on the boxes of a picture
         const { end: { letter, number }, shown: { side, port } } = this, ended = { f: `f${number}`, m: `m${number}`, D: \"def\" }[letter];
-        return ended ?? (side ? side + port : { \"?\": \"?\", e: \"exit\" }[this.letter] ?? this.letter + this.more);
+        return ended ?? (side ? side + port : { \"?\": \"?\", e: \"exit\" }[this.letter] ?? this.letter + parseInt(this.more));
     }
 }
 function readBlock(journal, at) {  // steps, ends by them in their order, levels, and stalls
@@ -62,22 +63,31 @@ function readBlock(journal, at) {  // steps, ends by them in their order, levels
 }
 class Journal {
     constructor(text) {
-        const [procs, from, to, clock] = /procs (\\d+)\\nsteps (\\d+) (\\d+)(?: clock (\\d+))?/.exec(text).slice(1).map(Number);
+        const head = /(\\d)\\nprocs (\\d+)\\nsteps (\\d+) (\\d+)(?: clock (\\d+))?/.exec(text);
+        const [edition, procs, from, to, clock] = head.slice(1).map(Number);
         const lanes = procs + 1, bounds = [], next = (at) => text.indexOf(\"\\n\", at) + 1;
         for (let at = next(next(next(0))), sketch; (sketch = text.indexOf(\"~\", at)) > 0; at = next(sketch)) bounds.push([at, sketch - 1]);
         const steps = bounds.length && (bounds.length - 1) * BLOCK + text.slice(...bounds.at(-1)).split(\"\\n\").length;
         const first = from - 1 - (from - 1) % BLOCK, end = Math.min(steps, Math.ceil(to / BLOCK) * BLOCK);  // whole blocks are told
         Object.assign(this, { text, procs, clock, lanes, from, to, first, end, bounds, steps, blocks: bounds.length, read: new Map() });
         const makes = this.placesOf(\";0m\"), last = this.blocks * lanes, gone = this.placesOf(\"e;0k\");
+        const [starts, reopens] = [/^\\d+g\\d+;0k/m, /^\\d+o[\\d:]+;0k/m].map((line) => (edition > 2 ? this.placesOf(line) : []));
         this.readSketches(makes.length + 1);
-        const rooms = makes.map((place, at) => this.mosts(at + 1, [{ at: 0 }, { step: steps }])[0] && Number(this.step(place).more));  // 0 if it held none
+        const opened = makes.map((place) => [{ place, room: Number(this.step(place).more) }]);  // by port: when it was, and with how much room
+        for (const { place, port, more } of reopens.map((at) => this.step(at))) opened[port - 1].push({ place, room: Number(more.split(\":\")[1]) });
+        const most = (port) => this.mosts(port, [{ at: 0 }, { step: steps }])[0];
+        const rooms = opened.map((own, at) => most(at + 1) && Math.max(...own.map(({ room }) => room)));  // 0 if it held none
         const asks = [...this.asked.subarray(last)].filter((count, lane) => lane < procs || count > 0);  // behind them processes that there are not
-        const exits = numbers(0, lanes).map((pid) => gone.find((place) => this.step(place).pid === pid) ?? null);
+        const lives = numbers(0, lanes).map(() => [{ begun: null, exited: null }]);  // by process, from the opening or a start on
+        for (const { place, lane, letter, more } of [...gone, ...starts].sort((one, other) => one - other).map((at) => this.step(at)))
+            if (letter === \"e\") lives[lane].at(-1).exited = place; else lives[more].push({ begun: place, exited: null });
         const waits = asks.map((_, lane) => this.waited[last + lane] - (this.open[last + lane] !== NEVER));
-        Object.assign(this, { ports: makes.length, stalls: this.placesOf(\"S\").filter((at) => this.stallAt(at).calls[0] >= 0), rooms, asks, waits, exits });
+        const stalls = this.placesOf(\"S\").filter((at) => this.stallAt(at).calls[0] >= 0);
+        Object.assign(this, { ports: makes.length, stalls, opened, rooms, asks, waits, lives });
     }
-    placesOf(letters) {  // the steps in whose lines these letters stand
-        const linesOf = (text) => (text.includes(letters) ? text.split(\"\\n\") : []), placeOf = (line, at) => (line.includes(letters) ? at : []);
+    placesOf(letters) {  // the steps in whose lines these letters stand, or that are such lines
+        const has = (text) => letters.test?.(text) ?? text.includes(letters), placeOf = (line, at) => (has(line) ? at : []);
+        const linesOf = (text) => (has(text) ? text.split(\"\\n\") : []);
         return this.bounds.flatMap((bounds, block) => linesOf(this.text.slice(...bounds)).flatMap(placeOf).map((at) => block * BLOCK + at));
     }
     readSketches(width) {  // a row tells what was before a block, and the most that ports held in the block before
@@ -85,7 +95,10 @@ class Journal {
         for (const [name, width] of Object.entries(widths)) this[name] = new Uint32Array((bounds.length + 1) * width);
         Object.assign(this, { width }).open.fill(NEVER);
         for (const [block, [, behind]] of bounds.entries()) this.readSketch(block, text.slice(behind + 2, text.indexOf(\"\\n\", behind + 1)));
-        for (const [sums, width] of [\"waited\", \"asked\", \"troubles\", \"sent\", \"got\"].map((name) => [this[name], widths[name]]))
+";
+
+pub(super) const SECOND: &str =
+    "        for (const [sums, width] of [\"waited\", \"asked\", \"troubles\", \"sent\", \"got\"].map((name) => [this[name], widths[name]]))
             for (let at = width; at < sums.length; at++) sums[at] += sums[at - width];
         for (let at = width; at < this.most.length; at++) this.most[at] = Math.max(this.most[at], this.sent[at - width] - this.got[at - width]);
     }
@@ -97,10 +110,7 @@ class Journal {
         }
     }
     blockAt(place) { return Math.floor(place / BLOCK); }
-";
-
-pub(super) const SECOND: &str =
-    "    endOfBlock(at) { return Math.min(this.steps, (at + 1) * BLOCK); }
+    endOfBlock(at) { return Math.min(this.steps, (at + 1) * BLOCK); }
     block(at) {
         if (this.read.size > MOST_READ) this.read.clear();
         return this.read.get(at) ?? this.read.set(at, readBlock(this, at)).get(at);
@@ -128,6 +138,7 @@ pub(super) const SECOND: &str =
         return stall && { ...stall, all: stall.calls, calls: stall.calls.filter((call) => this.step(call)?.pid !== this.clock) };
     }
     stallsOf(first, end) { return this.stalls.filter((place) => place >= first && place < end).map((place) => this.stallAt(place)); }
+    roomAt(place, port) { return this.opened[port - 1].findLast((one) => one.place <= place)?.room; }
     nameOf(lane) { return lane === this.clock ? \"clock\" : lane < this.procs ? `P${lane}` : \"unknown\"; }
     isIn(place) { return place >= this.first && place < this.end; }
     get told() { return this.end - this.first < this.steps ? \", as far as it is told\" : \"\"; }  // what is said of all steps

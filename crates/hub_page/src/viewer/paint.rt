@@ -28,14 +28,18 @@ class Painter {
         [lanes.parentElement.style, byId(\"early\").style, byId(\"late\").style] = [`--bottom: ${view.bottom}px`, edges, edges];
         byId(\"window\").style = `left: ${100 * view.first / (journal.steps || 1)}%; width: ${100 * view.steps / (journal.steps || 1)}%`;
     }
-    names() {
+    names() {  // a bar stands where a life begins: of a process that is started again, or of a port that is opened again
         const { view, journal } = this, name = (text, y, dim, more) => shape(\"text\", { x: LEFT - 8, y, class: `name ${dim ? \"dim\" : \"\"}`, ...more }, text);
-        const line = (y, end, more = \"\") => shape(\"path\", { d: `M${LEFT},${y}H${Math.max(LEFT, Math.min(view.width, end))}`, class: `line ${more}` });
-        const exit = (pid) => journal.exits[pid] ?? Infinity, label = (pid, height) => (height > FOLDED ? journal.nameOf(pid) : \"\");
+        const within = (x) => Math.max(LEFT, Math.min(view.width, x)), isGone = ({ exited }) => exited !== null && exited < view.first;
+        const bar = (place, y, height) => (place > view.first && view.x(place) < view.width ? `M${view.x(place)},${y}v${height}` : \"\");
+        const line = (y, begin, end, more, bars = \"\") => shape(\"path\", { d: `${bars}M${within(begin)},${y}H${within(end)}`, class: `line ${more}` });
+        const life = (y, { begun, exited }) => line(y, view.x(begun ?? -Infinity), view.x(exited ?? Infinity), \"\", bar(begun, y - 6, 12));
+        const lives = (pid) => (pid < journal.procs ? journal.lives[pid] : []), again = (port) => journal.opened[port - 1].slice(1);
         const lanes = [...view.place].flatMap(([pid, { y, height }]) =>
-            [line(y, pid < journal.procs ? view.x(exit(pid)) : 0), name(label(pid, height), y, exit(pid) < view.first)]);
-        return lanes.concat(view.strips().map((port, row) => [port, view.floor(row)]).flatMap(([port, floor]) =>
-            [name(`port ${port}`, floor - 8, false, { \"data-strip\": port }), line(floor, view.width), line(floor - FULL, view.width, \"full\")]));
+            [...lives(pid).map((one) => life(y, one)), name(height > FOLDED ? journal.nameOf(pid) : \"\", y, isGone(journal.lives[pid].at(-1)))]);
+        return lanes.concat(view.strips().map((port, row) => [port, view.floor(row)]).flatMap(([port, floor]) => [
+            name(`port ${port}`, floor - 8, false, { \"data-strip\": port }), line(floor - FULL, 0, view.width, \"full\"),
+            line(floor, 0, view.width, \"\", again(port).map(({ place }) => bar(place, floor - FULL, FULL)).join(\"\"))]));
     }
     shapes() {
         const { view } = this, stalls = this.journal.stallsOf(...view.range()), rect = (one, { title } = one) => shape(\"rect\", { ...one, title });
@@ -46,7 +50,7 @@ class Painter {
     signs(step) {  // the signs of a step that its shapes share
         const { place, port, end, shown: { side } } = step, { page } = this;
         return [hueOf(port), side, page.marks.has(place) && \"found\", place === page.chosen?.place && \"chosen\", step.isTrouble && \"trouble\",
-            { \"\": \"open\", d: \"drained\" }[end.letter], step.endsBy(\"xtw\") && \"cancelled\", \"mc\".includes(step.letter) && \"thick\"].filter(Boolean).join(\" \");
+            { \"\": \"open\", d: \"drained\" }[end.letter], step.endsBy(\"xtw\") && \"cancelled\", \"mco\".includes(step.letter) && \"thick\"].filter(Boolean).join(\" \");
     }
     fields({ place, calls }) {
         const { view } = this, width = Math.max(3, view.dots), places = calls.map((call) => view.place.get(this.journal.step(call)?.lane));
@@ -55,7 +59,7 @@ class Painter {
     }
     level({ row, port, from, until, count }) {
         const { view } = this, x = Math.max(LEFT, view.x(from)), width = Math.max(1, Math.min(view.width, view.x(until)) - x);
-        const room = this.journal.rooms[port - 1], height = count / room * FULL, title = `port ${port} holds ${count} of ${room}`;
+        const height = count / this.journal.rooms[port - 1] * FULL, title = `port ${port} holds ${count} of ${this.journal.roomAt(from, port)}`;
         return { class: `level ${hueOf(port)}`, x, y: view.floor(row) - height, width, height, title };
     }
     arrow(to) {
@@ -98,16 +102,16 @@ class Painter {
     colour(name) { return this.colours[name] ??= Object.assign(this.pen, { fillStyle: this.style.getPropertyValue(\"--\" + name) }).fillStyle; }
     fill(name, x, y, width, height) { Object.assign(this.pen, { fillStyle: this.colour(name) }).fillRect(x, y, width, height); }
     paintShapes() {
-        const { view } = this, shapes = [...view.levels().map((level) => this.level(level)), ...view.bars().map((call) => this.bar(call)),
+";
+
+pub(super) const SECOND: &str =
+    "        const { view } = this, shapes = [...view.levels().map((level) => this.level(level)), ...view.bars().map((call) => this.bar(call)),
             ...view.boxes().map((step) => this.box(step)), ...this.journal.stallsOf(...view.range()).flatMap((stall) => this.fields(stall))];
         const colourOf = (signs) => (/trouble|field/.test(signs) ? \"trouble\" : /h\\d|edge/.exec(signs)[0]);
         for (const { class: signs, x, y, width, height } of shapes) this.fill(colourOf(signs), x, y, width, height);
     }
     paintCounts() {  // in columns of dots: waits as a band as high as their share, steps as a thinner one on it, troubles
-";
-
-pub(super) const SECOND: &str =
-    "        const { view, journal } = this, edges = this.beginColumns(LEFT, Math.min(view.width, view.x(journal.steps - 0.5)), view.first, view.dots);
+        const { view, journal } = this, edges = this.beginColumns(LEFT, Math.min(view.width, view.x(journal.steps - 0.5)), view.first, view.dots);
         const bands = [[\"waited\", \"h1\", 0.8], [\"asked\", \"edge\", 1.2], [\"troubles\", \"trouble\", Infinity]];
         for (const [name, colour, weight] of bands) for (const [pid, { y, height }] of view.place)
             this.fillColumns(edges, colour, y, journal.shares(journal[name], pid, edges), weight * (height - 2), height - 2);

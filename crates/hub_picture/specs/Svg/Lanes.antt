@@ -1,20 +1,19 @@
--- What stands behind the shapes of a band: a lane for each process, and the numbers of steps.
-use Rattle.std.specs.Prelude.{ℕ, zero, suc, ◌+◌, ◌-◌, ◌%◌, ◌==◌, nat_le, List, [], ◌∷◌, ◌++◌, codes, decimal, if◌then◌else◌}
+-- What stands behind the shapes of a band: the lanes of processes, and the numbers of steps.
+use Rattle.std.specs.Prelude.{ℕ, zero, suc, ◌+◌, ◌-◌, ◌%◌, ◌==◌, ◌&&◌, nat_le, List, [], ◌∷◌, ◌++◌, codes, decimal, if◌then◌else◌}
 use Rattle.hub_picture.specs.declared.frame.Frame.{Frame}
 use Rattle.hub_picture.specs.declared.lanes.Lane.{Lane}
-use Rattle.hub_picture.specs.declared.frame.TheConstants.{LEFT}
-use Rattle.hub_picture.specs.Frames.{x_of, y_of, until, sizes_of}
+use Rattle.hub_picture.specs.Frames.{has_begun, since, x_of, y_of, until, sizes_of}
 use Rattle.hub_picture.specs.Pieces.{joined}
 
--- the lane of a process until it exits, and its name before it
+-- a lane until its process exits, and the process's name before it
 abbrev pub lane_text : Frame → Lane → List ℕ
 lane_text f l =
     joined (
-    codes "<path class=\"lane\" d=\"M" ∷ decimal LEFT
+    codes "<path class=\"lane\" d=\"M" ∷ decimal (since f l.begun)
     ∷ codes " " ∷ decimal (y_of f l.pid)
     ∷ codes "L" ∷ decimal (x_of f (until f l.exited))
     ∷ codes " " ∷ decimal (y_of f l.pid)
-    ∷ codes "\"/><text class=\"name\" x=\"" ∷ decimal (LEFT - 8)
+    ∷ codes "\"/><text class=\"name\" x=\"" ∷ decimal (since f l.begun - 8)
     ∷ codes "\" y=\"" ∷ decimal (y_of f l.pid + 4)
     ∷ codes "\">P" ∷ decimal l.pid
     ∷ codes "</text>\n"
@@ -22,7 +21,7 @@ lane_text f l =
 
 -- where it goes on in the band
 abbrev pub lane_in : Frame → Lane → List ℕ
-lane_in f l = if nat_le f.steps.first (until f l.exited) then lane_text f l else []
+lane_in f l = if nat_le f.steps.first (until f l.exited) && has_begun f l.begun then lane_text f l else []
 
 -- the number of a step, above the first lane
 abbrev pub tick_text : Frame → ℕ → List ℕ

@@ -10,8 +10,8 @@ use Rattle.hub_picture.specs.declared.drawing.Drawing.{Drawing}
 use Rattle.hub_picture.specs.declared.label.Label.{Label}
 use Rattle.hub_picture.specs.declared.label.Label.TheVariants as label
 use Rattle.hub_picture.specs.declared.svg.legend.Mark.{Mark}
-use Rattle.hub_picture.specs.declared.svg.legend.Mark.TheVariants.{Sends, Receives, Makes, Closes, Selects, Defaults, Cancels, Refused, Open}
-use Rattle.hub_picture.specs.declared.svg.legend.Mark.TheVariants.{Drained, Cancelled, Trouble, Bars, Arrows, Stalls, Levels}
+use Rattle.hub_picture.specs.declared.svg.legend.Mark.TheVariants.{Sends, Receives, Makes, Closes, Reopens, Selects, Defaults, Cancels, Starts}
+use Rattle.hub_picture.specs.declared.svg.legend.Mark.TheVariants.{Refused, Open, Drained, Cancelled, Trouble, Bars, Arrows, Stalls, Levels}
 use Rattle.hub_picture.specs.declared.frame.TheConstants.{ROW}
 use Rattle.hub_picture.specs.Labels.{label_of, last_told}
 use Rattle.hub_picture.specs.Pieces.{joined}
@@ -23,9 +23,11 @@ of_label Sends (label.Send p) = true
 of_label Receives (label.Receive p) = true
 of_label Makes (label.Make p) = true
 of_label Closes (label.Close p) = true
+of_label Reopens (label.Reopen p) = true
 of_label Selects label.Select = true
 of_label Defaults label.Default = true
 of_label Cancels (label.Cancel q) = true
+of_label Starts (label.Start q) = true
 of_label Refused (label.Refused f) = true
 of_label m l = false
 
@@ -57,9 +59,11 @@ mark_sign Sends = codes "<g class=\"box send h1\"><rect x=\"0\" y=\"-7\" width=\
 mark_sign Receives = codes "<g class=\"box receive h1\"><rect x=\"0\" y=\"-7\" width=\"28\" height=\"14\"/><text x=\"14\" y=\"4\">r1</text></g>"
 mark_sign Makes = codes "<g class=\"box port h1\"><rect x=\"0\" y=\"-7\" width=\"28\" height=\"14\"/><text x=\"14\" y=\"4\">m1</text></g>"
 mark_sign Closes = codes "<g class=\"box port h1\"><rect x=\"0\" y=\"-7\" width=\"28\" height=\"14\"/><text x=\"14\" y=\"4\">c1</text></g>"
+mark_sign Reopens = codes "<g class=\"box port h1\"><rect x=\"0\" y=\"-7\" width=\"28\" height=\"14\"/><text x=\"14\" y=\"4\">o1</text></g>"
 mark_sign Selects = codes "<g class=\"box plain\"><rect x=\"0\" y=\"-7\" width=\"28\" height=\"14\"/><text x=\"14\" y=\"4\">?</text></g>"
 mark_sign Defaults = codes "<g class=\"box plain\"><rect x=\"0\" y=\"-7\" width=\"28\" height=\"14\"/><text x=\"14\" y=\"4\">def</text></g>"
 mark_sign Cancels = codes "<g class=\"box plain\"><rect x=\"0\" y=\"-7\" width=\"28\" height=\"14\"/><text x=\"14\" y=\"4\">x2</text></g>"
+mark_sign Starts = codes "<g class=\"box plain\"><rect x=\"0\" y=\"-7\" width=\"28\" height=\"14\"/><text x=\"14\" y=\"4\">g2</text></g>"
 mark_sign Refused = codes "<g class=\"box refused\"><rect x=\"0\" y=\"-7\" width=\"28\" height=\"14\"/><text x=\"14\" y=\"4\">f3</text></g>"
 mark_sign Open = codes "<g class=\"box receive h1 open\"><rect x=\"0\" y=\"-7\" width=\"28\" height=\"14\"/><text x=\"14\" y=\"4\">r1</text></g>"
 mark_sign Drained = codes "<g class=\"box receive h1 drained\"><rect x=\"0\" y=\"-7\" width=\"28\" height=\"14\"/><text x=\"14\" y=\"4\">r1</text></g>"
@@ -76,9 +80,11 @@ mark_words Sends = codes "sends"
 mark_words Receives = codes "receives"
 mark_words Makes = codes "makes a port"
 mark_words Closes = codes "closes a port"
+mark_words Reopens = codes "reopens a port"
 mark_words Selects = codes "no case fired"
 mark_words Defaults = codes "default taken"
 mark_words Cancels = codes "cancels a call"
+mark_words Starts = codes "starts a process"
 mark_words Refused = codes "refused: fault 3"
 mark_words Open = codes "still waits"
 mark_words Drained = codes "closed and empty"
@@ -108,5 +114,5 @@ signs_from d place (m ∷ ms) = if occurs d m then sign_text place m ++ signs_fr
 abbrev pub legend_text : Drawing → List ℕ
 legend_text d =
     signs_from d 0 (
-    Sends ∷ Receives ∷ Makes ∷ Closes ∷ Selects ∷ Defaults ∷ Cancels ∷ Refused
+    Sends ∷ Receives ∷ Makes ∷ Closes ∷ Reopens ∷ Selects ∷ Defaults ∷ Cancels ∷ Starts ∷ Refused
     ∷ Open ∷ Drained ∷ Cancelled ∷ Trouble ∷ Bars ∷ Arrows ∷ Stalls ∷ Levels ∷ [])

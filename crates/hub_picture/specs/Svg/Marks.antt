@@ -1,7 +1,7 @@
 -- The marks of ports: a form for each colour. Arrows begin with it, and boxes have it on a corner.
 use Rattle.std.specs.Prelude.{ℕ, ◌-◌, List, [], ◌∷◌, codes, decimal, Option, None, Some}
 use Rattle.hub_picture.specs.declared.label.Label.{Label}
-use Rattle.hub_picture.specs.declared.label.Label.TheVariants.{Make, Send, Receive, Close}
+use Rattle.hub_picture.specs.declared.label.Label.TheVariants.{Make, Send, Receive, Close, Reopen}
 use Rattle.hub_picture.specs.declared.svg.rect.Rect.{Rect}
 use Rattle.hub_picture.specs.Labels.{hue_of}
 use Rattle.hub_picture.specs.Pieces.{joined}
@@ -34,6 +34,7 @@ hue_in (Make p) = Some (hue_of p)
 hue_in (Send p) = Some (hue_of p)
 hue_in (Receive p) = Some (hue_of p)
 hue_in (Close p) = Some (hue_of p)
+hue_in (Reopen p) = Some (hue_of p)
 hue_in l = None
 
 -- a mark on the upper left corner of a box

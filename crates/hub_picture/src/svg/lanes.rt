@@ -5,7 +5,7 @@ ghost use Rattle.hub_picture.specs.Pieces.{Appends};
 ghost use Rattle.hub_picture.specs.Svg.Lanes.{lane_in, lane_text, tick_in, tick_text, ticks_to};
 
 use crate::Lane;
-use crate::frame::{Frame, LEFT, number_of};
+use crate::frame::{Frame, number_of};
 use crate::pen::Pen;
 use crate::piece::put_filled;
 use std::alloc::AllocError;
@@ -14,6 +14,7 @@ use std::alloc::AllocError;
 fn put_lane(out: &mut Vec<u8>, frame: Frame, lane: &Lane) -> Result<(), AllocError>
     ensures { Appends out.old out.new (lane_text frame lane.now) result }
 {
+    let x = frame.since(lane.begun);
     let y = frame.y(lane.pid);
     put_filled(
         out,
@@ -28,11 +29,11 @@ fn put_lane(out: &mut Vec<u8>, frame: Frame, lane: &Lane) -> Result<(), AllocErr
             b"</text>\n",
         ],
         &[
-            LEFT,
+            x,
             y,
             frame.x(frame.until(lane.exited)),
             y,
-            LEFT - 8,
+            x - 8,
             y + 4,
             lane.pid.into(),
         ],
@@ -44,7 +45,7 @@ impl Pen<Lane> for Frame {
     ghost text = { lane_in };
 
     fn put(&self, out: &mut Vec<u8>, lane: &Lane) -> Result<(), AllocError> {
-        if self.steps.first <= self.until(lane.exited) {
+        if self.steps.first <= self.until(lane.exited) && self.has_begun(lane.begun) {
             put_lane(out, *self, lane)
         } else {
             Ok(())

@@ -24,12 +24,16 @@ pub(crate) enum Mark {
     Makes,
     /// It closes a port.
     Closes,
+    /// It opens a port again.
+    Reopens,
     /// It is a select of which no case fired.
     Selects,
     /// It took its default.
     Defaults,
     /// It cancels a call.
     Cancels,
+    /// It starts a process again.
+    Starts,
     /// It was refused.
     Refused,
     /// It still waits.
@@ -59,9 +63,11 @@ fn of_label(mark: Mark, label: Label) -> bool
         Mark::Receives => matches!(label, Label::Receive(_)),
         Mark::Makes => matches!(label, Label::Make(_)),
         Mark::Closes => matches!(label, Label::Close(_)),
+        Mark::Reopens => matches!(label, Label::Reopen(_)),
         Mark::Selects => matches!(label, Label::Select),
         Mark::Defaults => matches!(label, Label::Default),
         Mark::Cancels => matches!(label, Label::Cancel(_)),
+        Mark::Starts => matches!(label, Label::Start(_)),
         Mark::Refused => matches!(label, Label::Refused(_)),
         _ => false,
     }
@@ -129,12 +135,16 @@ fn sign(mark: Mark) -> &'static [u8]
             b"<g class=\"box port h1\"><rect x=\"0\" y=\"-7\" width=\"28\" height=\"14\"/><text x=\"14\" y=\"4\">m1</text></g>",
         Mark::Closes =>
             b"<g class=\"box port h1\"><rect x=\"0\" y=\"-7\" width=\"28\" height=\"14\"/><text x=\"14\" y=\"4\">c1</text></g>",
+        Mark::Reopens =>
+            b"<g class=\"box port h1\"><rect x=\"0\" y=\"-7\" width=\"28\" height=\"14\"/><text x=\"14\" y=\"4\">o1</text></g>",
         Mark::Selects =>
             b"<g class=\"box plain\"><rect x=\"0\" y=\"-7\" width=\"28\" height=\"14\"/><text x=\"14\" y=\"4\">?</text></g>",
         Mark::Defaults =>
             b"<g class=\"box plain\"><rect x=\"0\" y=\"-7\" width=\"28\" height=\"14\"/><text x=\"14\" y=\"4\">def</text></g>",
         Mark::Cancels =>
             b"<g class=\"box plain\"><rect x=\"0\" y=\"-7\" width=\"28\" height=\"14\"/><text x=\"14\" y=\"4\">x2</text></g>",
+        Mark::Starts =>
+            b"<g class=\"box plain\"><rect x=\"0\" y=\"-7\" width=\"28\" height=\"14\"/><text x=\"14\" y=\"4\">g2</text></g>",
         Mark::Refused =>
             b"<g class=\"box refused\"><rect x=\"0\" y=\"-7\" width=\"28\" height=\"14\"/><text x=\"14\" y=\"4\">f3</text></g>",
         Mark::Open =>
@@ -164,9 +174,11 @@ fn word(mark: Mark) -> &'static [u8]
         Mark::Receives => b"receives",
         Mark::Makes => b"makes a port",
         Mark::Closes => b"closes a port",
+        Mark::Reopens => b"reopens a port",
         Mark::Selects => b"no case fired",
         Mark::Defaults => b"default taken",
         Mark::Cancels => b"cancels a call",
+        Mark::Starts => b"starts a process",
         Mark::Refused => b"refused: fault 3",
         Mark::Open => b"still waits",
         Mark::Drained => b"closed and empty",
@@ -230,9 +242,11 @@ pub(crate) fn put_legend(out: &mut Vec<u8>, drawing: &Drawing) -> Result<(), All
             Mark::Receives,
             Mark::Makes,
             Mark::Closes,
+            Mark::Reopens,
             Mark::Selects,
             Mark::Defaults,
             Mark::Cancels,
+            Mark::Starts,
             Mark::Refused,
             Mark::Open,
             Mark::Drained,

@@ -40,9 +40,8 @@ pub(crate) fn hue_in(label: Label) -> Option<u64>
     ensures { result ≡ hue_in label }
 {
     match label {
-        Label::Make(port) | Label::Send(port) | Label::Receive(port) | Label::Close(port) => {
-            Some(hue(port))
-        }
+        Label::Make(port) | Label::Send(port) | Label::Receive(port) => Some(hue(port)),
+        Label::Close(port) | Label::Reopen(port) => Some(hue(port)),
         _ => None,
     }
 }

@@ -1,16 +1,17 @@
-use Rattle.std.proofs.Common.{◌≡◌, ◌∙◌, ◌++◌, ap, subst, sym, codes, decimal, length, slice_get, []}
+use Rattle.std.proofs.Common.{◌≡◌, ℕ, List, ◌∙◌, ◌++◌, ap, subst, sym, codes, decimal, length, slice_get, []}
 use Rattle.std.specs.Option.{option_map_or}
 use Rattle.hub_base.specs.Entry.{Entry}
 use Rattle.hub_story.specs.Levels.{received_by, sent_by}
 use Rattle.hub_story.specs.OfPorts.{things_on}
 use Rattle.hub_story.specs.Passing.{receives, sends}
-use Rattle.hub_story_text.specs.Closers.{closer_of}
+use Rattle.hub_story_text.specs.Closers.{turns_on}
+use Rattle.hub_story_text.specs.declared.closers.Turns.{Turns}
 use Rattle.hub_story_text.specs.Fullest.{IsUp, fullest, fullest_of}
 use Rattle.hub_story_text.specs.PortMoves.{steps_on}
-use Rattle.hub_story_text.specs.PortText.{by_words, cap_words, closer_words, counts_words, most_words}
+use Rattle.hub_story_text.specs.PortText.{by_words, cap_words, counts_words, most_words, opened_at, turn_words}
 use Rattle.hub_base.specs.Values.{got_on, sent_on}
 use Rattle.hub_story_text.proofs.Chains.{one-more, two}
-use Rattle.hub_story_text.proofs.Closings.{among-closes}
+use Rattle.hub_story_text.proofs.Closings.{among-turns}
 use Rattle.hub_story_text.proofs.Levels.{fullest-is, steps_of, steps-up}
 use Rattle.hub_story_text.proofs.Places.{received-steps, sent-steps}
 use Rattle.hub_story_text.proofs.ports.put_port.Goals as goal
@@ -33,7 +34,12 @@ returns c =
     let told = c.args.story.now.told.items in
     let p = c.args.port in
     let out = c.args.out.now.items in
-    let cap = option_map_or (λ (e : Entry). cap_words e.step) (slice_get es c.args.told.now.asked) [] in
+    let turns = turns_on es told p in
+    let are-turns : c.turns_on-reopened.result ≡ turns =
+    c.turns_on-reopened.ensures ∙ ap (λ l. turns_on l c.args.turns.now p) c.entries.ensures ∙ ap (λ l. turns_on es l p) c.requires.turns
+    ∙ among-turns es p told in
+    let caps : ℕ → List ℕ = λ place. option_map_or (λ (e : Entry). cap_words e.step) (slice_get es place) [] in
+    let cap = caps (opened_at c.args.told.now turns.reopened) in
     let sent : c.level.result.sent ≡ sent_by es told p (length es) =
     c.level.ensures.sent es told c.requires.moves ∙ ap (λ l. length (sends es l p)) (sym c.requires.whole) in
     let received : c.level.result.received ≡ received_by es told p (length es) =
@@ -45,13 +51,12 @@ returns c =
     ∙ ap (λ l. fullest_of l (steps_on p (things_on c.args.moves.now.received p))) (sent-steps es told c.args.moves.now c.requires.moves p)
     ∙ ap (fullest_of (steps_of (sends es told p))) (received-steps es told c.args.moves.now c.requires.moves p)
     ∙ fullest-is es told p (length es) c.requires.order c.requires.whole in
-    let closer : c.closer_of.result ≡ closer_of es told p =
-    c.closer_of.ensures ∙ ap (λ l. closer_of l c.args.closes.now p) c.entries.ensures ∙ ap (λ l. closer_of es l p) c.requires.closes
-    ∙ among-closes es p told in
     let made = by_words (codes " made by P") c.args.told.now in
     let before = codes "port " ++ decimal p.0 in
     let at-number = two out c.put_number.new.out.items (codes "port ") (decimal p.0) (rw c.into.ensures at c.in_ok-put_number.ensures) in
-    let at-cap = one-more out c.put_number.new.out.items c.put_cap.new.out.items before cap at-number c.in_ok-put_cap.ensures in
+    let at-cap = one-more out c.put_number.new.out.items c.put_cap.new.out.items before cap at-number
+    (c.in_ok-put_cap.ensures ∙ ap (λ place. c.put_number.new.out.items ++ caps place) c.opened_at.ensures
+    ∙ ap (λ (t : Turns). c.put_number.new.out.items ++ caps (opened_at c.args.told.now t.reopened)) are-turns) in
     let at-counts = one-more out c.put_cap.new.out.items c.put_counts.new.out.items (before ++ cap) counts at-cap
     (c.in_ok-put_counts.ensures ∙ ap (λ n. c.put_cap.new.out.items ++ counts_words n c.level.result.received) sent
     ∙ ap (λ n. c.put_cap.new.out.items ++ counts_words (sent_by es told p (length es)) n) received) in
@@ -59,9 +64,14 @@ returns c =
     (c.in_ok-put_most.ensures ∙ ap (λ f. c.put_counts.new.out.items ++ most_words f) is-full) in
     let at-made = one-more out c.put_most.new.out.items c.put_by.new.out.items (before ++ cap ++ counts ++ most_words full) made at-most
     c.in_ok-put_by.ensures in
-    let at-closer = one-more out c.put_by.new.out.items c.put_closer.new.out.items (before ++ cap ++ counts ++ most_words full ++ made)
-    (closer_words (closer_of es told p)) at-made
-    (c.in_ok-put_closer.ensures ∙ ap (λ t. c.put_by.new.out.items ++ closer_words t) closer) in
-    one-more out c.put_closer.new.out.items c.extend_from_slice.new.self.items
-    (before ++ cap ++ counts ++ most_words full ++ made ++ closer_words (closer_of es told p))
-    (codes "\n") at-closer c.in_ok-extend_from_slice.ensures.items
+    let again = turn_words (codes " reopened by P") turns.reopened in
+    let at-again = one-more out c.put_by.new.out.items c.put_turn.new.out.items (before ++ cap ++ counts ++ most_words full ++ made) again at-made
+    (c.in_ok-put_turn.ensures
+    ∙ ap (λ (t : Turns). c.put_by.new.out.items ++ turn_words (codes " reopened by P") t.reopened) are-turns) in
+    let closed = turn_words (codes " closed by P") turns.closed in
+    let at-closed = one-more out c.put_turn.new.out.items c.put_turn-2.new.out.items (before ++ cap ++ counts ++ most_words full ++ made ++ again)
+    closed at-again
+    (c.in_ok-put_turn-2.ensures
+    ∙ ap (λ (t : Turns). c.put_turn.new.out.items ++ turn_words (codes " closed by P") t.closed) are-turns) in
+    one-more out c.put_turn-2.new.out.items c.extend_from_slice.new.self.items
+    (before ++ cap ++ counts ++ most_words full ++ made ++ again ++ closed) (codes "\n") at-closed c.in_ok-extend_from_slice.ensures.items

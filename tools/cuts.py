@@ -2,13 +2,13 @@
 """cuts.py PROGRAM TOOL [RUNS [SEED]]: cuts random journals at random places, and compares what the built chanhub (PROGRAM) tells
 behind each cut with what it tells there of the journal that was not cut.
 
-Such a journal has a line for each word, selects, cancels, closes, faults and stalls, in both editions (random_journal.py). At a
-cut the journal goes on from a checkpoint, which is made here from what model.py says of the state, and no definition is read: the
-ports in order, each made, filled and closed; the exits by number; the open calls in order of arrival. A journal is cut one to three
-times, each time in the chapter that the last cut began. RUNS journals are cut (100), from SEED on (1). Wrong checkpoints are tried
-as well, until the comparison notices each. The chapters of the admitted lines are checked as a chain by the built chanhub_tool
-(TOOL): all of them, and with each one left out, which is whole only where the states on both sides have one checkpoint. The last
-line counts: 'N passed, M failed'.
+Such a journal has selects, closes, faults and stalls, in the later editions cancels, and in the third starts and reopens
+(random_journal.py). At a cut the journal goes on from a checkpoint, which is made here from what model.py says of the state, and no
+definition is read: the ports in order, each made, filled and closed; the exits by number; the open calls in order of arrival. A
+journal is cut one to three times, each time in the chapter that the last cut began. RUNS journals of the first two editions are cut
+(100), from SEED on (1), and as many of the third. Wrong checkpoints are tried as well, until the comparison notices each. The
+chapters of the admitted lines are checked as a chain by the built chanhub_tool (TOOL): all of them, and with each one left out,
+which is whole only where the states on both sides have one checkpoint. The last line counts: 'N passed, M failed'.
 """
 import os
 import pathlib
@@ -113,9 +113,9 @@ class Cutter:
             if self.behind(head, wrong.lines(), later)[1] != wanted:
                 del self.unnoticed[name]
 
-    def what_fails(self, seed):
+    def what_fails(self, seed, third):
         """What is wrong with the cuts of this journal, or nothing."""
-        lines = Journal(seed, 0).text().splitlines()
+        lines = Journal(seed, 0, third).text().splitlines()
         head, lines = lines[:2], lines[2:]
         draw = random.Random(seed)
         places = sorted(draw.randint(0, len(lines)) for _ in range(draw.randint(1, MOST_CUTS)))
@@ -148,9 +148,9 @@ class Chainer:
         self.work = pathlib.Path(work)
         self.broken = 0
 
-    def what_fails(self, seed):
+    def what_fails(self, seed, third):
         """What is wrong with the chains of this journal's chapters, or nothing."""
-        lines = Journal(seed, 0).text().splitlines()
+        lines = Journal(seed, 0, third).text().splitlines()
         head, lines = lines[:2], admitted(lines[:2], lines[2:])
         draw = random.Random(seed)
         places = sorted(draw.randint(0, len(lines)) for _ in range(draw.randint(1, MOST_CUTS)))
@@ -229,14 +229,15 @@ def main(words):
     runs, first = (int(words[place]) if place < len(words) else usual for place, usual in ((2, RUNS), (3, 1)))
     cutter = Cutter(os.path.abspath(words[0]))
     count = Count()
-    for seed in range(first, first + runs):
-        wrong = cutter.what_fails(seed)
-        count.test(f'the journal of seed {seed}', not wrong, wrong)
+    journals = [(seed, third) for third in (False, True) for seed in range(first, first + runs)]
+    for seed, third in journals:
+        wrong = cutter.what_fails(seed, third)
+        count.test(f'the journal of seed {seed}{" --third" * third}', not wrong, wrong)
     with tempfile.TemporaryDirectory() as work:
         chainer = Chainer(os.path.abspath(words[1]), work)
-        for seed in range(first, first + runs):
-            wrong = chainer.what_fails(seed)
-            count.test(f'the chain of seed {seed}', not wrong, wrong)
+        for seed, third in journals:
+            wrong = chainer.what_fails(seed, third)
+            count.test(f'the chain of seed {seed}{" --third" * third}', not wrong, wrong)
     count.test('chains without a chapter', chainer.broken, 'none was broken')
     for name in WRONG:
         count.test(f'a wrong checkpoint, {name}', name not in cutter.unnoticed, 'nobody noticed')

@@ -8,11 +8,15 @@ Each is well formed, of the second edition where its seed is even, after --third
 hub can answer: every word, selects of 0 to 9 cases, but for the first edition to 16, with and without a default, choice
 words from 0 to the greatest, closes, exits, but for the first edition cancels and values of 0 to 32 bytes, in the third
 starts and reopens, port 0, ports that are not made, capacities that are too large, processes that are busy, gone or
-unknown. LINES counts the entries; where it is not said there are 60 to 300.
+unknown. In the third most entries are of processes that can act, and half of the starts and reopens or more are done:
+the journal follows what model.py makes of it. LINES counts the entries; where it is not said there are 60 to 300.
 """
 import os
 import random
 import sys
+
+sys.dont_write_bytecode = True
+import model
 
 GREATEST = {'process': 255, 'capacity': 4294967295, 'port': 65535, 'value': 18446744073709551615}
 
@@ -51,13 +55,25 @@ class Journal:
         self.capacities = self.numbers.among([[0], [0, 1], [0, 1, 2, 3], [1, 2], [0, 4, 1024]])
         # a few journals make more ports than there can be
         self.first_ports = 62 + self.numbers.below(8) if self.numbers.one_in(20) else 1 + self.numbers.below(6)
-        # so many processes exit, early or late; where they may come back many do
-        self.exits_left = self.entries if third else min(self.numbers.below(self.procs + 1), self.numbers.below(self.procs + 1))
+        # so many processes exit, early or late
+        self.exits_left = min(self.numbers.below(self.procs + 1), self.numbers.below(self.procs + 1))
         # of a hundred steps so many are closes; in most journals few are, so that ports stay open
-        self.closes = self.numbers.among([1, 2, 3, 5] if third else [0, 1, 1, 5])
+        self.closes = self.numbers.among([0, 1, 1, 5])
         # all communications stand on few ports, so that they meet
         self.ports = 1 + self.numbers.below(min(self.first_ports, 4))
         self.value = 0
+        # what the third edition's steps so far have come to
+        self.hub = model.Hub(self.edition, self.procs)
+
+    def actor(self):
+        """Who makes a step; in the third edition for the most part a process that can."""
+        if self.edition < 3:
+            return self.process()
+        return self.mostly([pid for pid in range(self.procs) if self.hub.refusal(pid) is None], self.process)
+
+    def mostly(self, able, anyone):
+        """One of those that are able, but now and then, and where there is none, anyone."""
+        return self.numbers.among(able) if able and not self.numbers.one_in(5) else anyone()
 
     def process(self):
         if self.numbers.one_in(60):
@@ -109,10 +125,21 @@ class Journal:
         return 'make %d' % self.capacity()
 
     def life(self):
-        """A process starts again, or a port opens again."""
+        """A process starts again, or a port opens again. Where none can, for the most part one exits or is closed instead."""
+        gone = sorted(self.hub.gone)
+        drained = [port for port, channel in enumerate(self.hub.ports, 1) if channel['closed'] and not channel['buffer']]
+        in_vain = self.numbers.one_in(4)
         if self.numbers.one_in(2):
-            return 'start %d' % self.process()
-        return 'reopen %d %d' % (self.port(), self.capacity())
+            return 'start %d' % self.mostly(gone, self.process) if gone or in_vain or not self.may_exit() else 'exit'
+        if not drained and not in_vain:
+            return 'close %d' % self.port()
+        return 'reopen %d %d' % (self.mostly(drained, self.port), self.capacity())
+
+    def may_exit(self):
+        """In the third edition any number of processes may, but the last of those that are there for the most part stays."""
+        if self.edition == 3:
+            return len(self.hub.gone) < self.procs - 1 or self.numbers.one_in(20)
+        return self.exits_left > 0
 
     def step(self):
         if self.edition == 3 and self.numbers.one_in(8):
@@ -124,7 +151,7 @@ class Journal:
             return self.make()
         if self.edition > 1 and drawn < 10 and self.numbers.one_in(2):
             return 'cancel %d' % self.process()
-        if drawn < 10 and self.exits_left > 0:
+        if drawn < 10 and self.may_exit():
             self.exits_left -= 1
             return 'exit'
         if drawn < 40:
@@ -137,7 +164,10 @@ class Journal:
         lines = ['chanhub journal %d' % self.edition, 'procs %d' % self.procs]
         for place in range(self.entries):
             step = self.make() if place < self.first_ports else self.step()
-            lines.append('%d %s' % (self.process(), step))
+            pid = self.actor()
+            lines.append('%d %s' % (pid, step))
+            if self.edition == 3:
+                self.hub.step(pid, *model.step(step.split()))
         return ''.join(line + '\n' for line in lines)
 
 

@@ -51,6 +51,7 @@ check 'gofmt' is_formatted
 check 'go test' go test -count=1 -timeout 600s .
 check 'go build' go build -o "$work/go_compare" .
 "$root/tools/random_journal.py" 1 $((2 * of_each_edition)) "$work/journals"
+"$root/tools/random_journal.py" --third 1 "$of_each_edition" "$work/third_journals"
 mkdir "$work/examples"
 for events in "$root"/examples/journals/*.stdout; do
     cp "${events%.stdout}" "$work/examples"
@@ -60,15 +61,30 @@ awk 'BEGIN {
     print "chanhub journal 1\nprocs 2\n0 make 1"
     for (i = 0; i < 64; i++) print "0 select 0 s1:1 s1:2\n1 recv 1\n0 select 0 r1 r1\n1 send 1 3"
 }' > "$work/examples/draws"
+# A process and a port come back, which then has room.
+cat > "$work/examples/lives" << 'END'
+chanhub journal 3
+procs 2
+0 make 0
+1 exit
+0 start 1
+1 close 1
+0 reopen 1 1
+1 send 1 7
+0 recv 1
+END
 go_compare "$program" "$work"/journals/*[13579] > "$work/first" 2>&1 &
 first=$!
 go_compare "$program" "$work"/journals/*[02468] > "$work/second" 2>&1 &
 second=$!
+go_compare "$program" "$work"/third_journals/* > "$work/third" 2>&1 &
+third=$!
 go_compare "$program" "$work"/examples/* > "$work/compared" 2>&1
-wait "$first" "$second"
+wait "$first" "$second" "$third"
 add_counts 'examples' "$work/compared"
 add_counts 'first edition' "$work/first"
 add_counts 'second edition' "$work/second"
+add_counts 'third edition' "$work/third"
 
 notices oldest_receiver_first 'newest waiter first' 's/for pid, cases in self.waiting:/for pid, cases in reversed(self.waiting):/'
 notices draws 'highest case of a waiting call' 's/in enumerate(cases):/in reversed(list(enumerate(cases))):/'
@@ -76,5 +92,8 @@ notices draws 'first ready case' 's/ready\[word % len(ready)\]/ready[0]/'
 notices close_then_drain 'buffer dropped by a close' "s/\['closed'\] = True/.update(closed=True, buffer=[])/"
 notices buffered_then_parked 'waiting value first' 's/\.append(met\[2\]\[2\])/.insert(0, met[2][2])/'
 notices hand_over 'receiver left waiting' 's/^            self.end(met\[0\])$/            pass/'
+notices lives 'started process still gone' 's/self.gone.remove(step)/pass/'
+notices lives 'reopened port still closed' 's/, closed=False)/)/'
+notices lives 'capacity kept by a reopen' 's/(cap=step\[1\], /(/'
 echo "$passed passed, $failed failed"
 [ "$failed" -eq 0 ]

@@ -13,11 +13,12 @@ type communication struct {
 	value  string
 }
 
-// entry is a process and its step, which is one of make, call, close, exit and cancel.
+// entry is a process and its step, which is one of make, call, close, exit, cancel, start and reopen.
 type entry struct {
 	pid        int
 	step       string
 	number     int // the capacity, the port or the process of a step that is no call
+	capacity   int // of a reopen
 	cases      []communication
 	hasDefault bool
 	word       uint64
@@ -46,8 +47,10 @@ func readJournal(text string) journal {
 func readEntry(fields []string) entry {
 	read := entry{pid: number(fields[0]), step: fields[1]}
 	switch fields[1] {
-	case "make", "close", "cancel":
+	case "make", "close", "cancel", "start":
 		read.number = number(fields[2])
+	case "reopen":
+		read.number, read.capacity = number(fields[2]), number(fields[3])
 	case "send":
 		read.step = "call"
 		read.cases = []communication{{true, number(fields[2]), fields[3]}}
@@ -105,6 +108,8 @@ func (e entry) text() string {
 		return e.callText()
 	case "exit":
 		return "exit"
+	case "reopen":
+		return fmt.Sprintf("reopen %d %d", e.number, e.capacity)
 	}
 	return fmt.Sprintf("%s %d", e.step, e.number)
 }

@@ -14,7 +14,10 @@
 //   - If a select panics, Go does not say which send caused it. The lowest send on a closed port is reported.
 //   - If one step ends several calls, Go has no order among them. They are reported in order of arrival.
 //
-// Faults 1 to 7 and 12 have no counterpart in Go. Their answers come from the rules; Go runs no step.
+// A process that is started again is another goroutine, and a port that is opened again is another channel.
+//
+// Faults 1 to 7, 12, 16 and 17, and fault 8 of a reopen, have no counterpart in Go. Their answers come from the rules; Go runs no
+// step.
 //
 // Each journal is run twice:
 //

@@ -15,6 +15,7 @@ type answer struct {
 const noCase = -1
 
 var (
+	done         = answer{noCase, "done"}
 	tookDefault  = answer{noCase, "default"}
 	tookWayOut   = answer{noCase, "ended from outside"}
 	sentOnClosed = answer{noCase, "closed"}
@@ -39,7 +40,7 @@ func (p *process) run() {
 		told := step()
 		p.told.Store(&told)
 	}
-	p.told.Store(&answer{noCase, "done"})
+	p.told.Store(&done)
 }
 
 // give has an idle process begin a step.
@@ -169,7 +170,7 @@ func closeChannel(channel chan string) (told answer) {
 		}
 	}()
 	close(channel)
-	return answer{noCase, "done"}
+	return done
 }
 
 // panicText gives what a panic of Go's runtime says, and nothing where there was none. What is no such panic goes on.

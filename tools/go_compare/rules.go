@@ -7,7 +7,7 @@ const (
 	mostPorts    = 64
 )
 
-// mostCases of a call in an edition. A journal of the second has no call of more, so none is refused there.
+// mostCases of a call in an edition. A journal of a later one than the first has no call of more, so none is refused there.
 func mostCases(edition int) int {
 	if edition == 1 {
 		return 8
@@ -38,6 +38,12 @@ func (r *run) fault(e entry) int {
 		if !r.isOpen(e.number) {
 			return 12
 		}
+	case "start":
+		if e.number >= len(r.processes) || !r.processes[e.number].isGone {
+			return 17
+		}
+	case "reopen":
+		return r.faultOfReopen(e.number, e.capacity)
 	}
 	return 0
 }
@@ -64,6 +70,20 @@ func (r *run) faultOfCall(cases []communication) int {
 	return 0
 }
 
+func (r *run) faultOfReopen(port, capacity int) int {
+	switch {
+	case port >= len(r.channels):
+		return 5
+	case capacity > mostCapacity:
+		return 6
+	case port == 0:
+		return 8
+	case !r.isClosed[port] || len(r.channels[port]) > 0:
+		return 16
+	}
+	return 0
+}
+
 func (r *run) isOpen(pid int) bool {
 	for _, o := range r.open {
 		if o.pid == pid {
@@ -84,39 +104,50 @@ func (r *run) isStalled() bool {
 	return alive > 0 && len(r.open) == alive
 }
 
-// ready gives the cases that can proceed, as `len`, `cap`, the closes and the calls that wait tell. Nothing that Go is asked
-// depends on it: it says which choice word asks for the case that Go drew.
-func (r *run) ready(cases []communication) []int {
-	var ready []int
+// fits tells of each case whether its port alone lets it proceed, as `len`, `cap` and the closes tell.
+func (r *run) fits(cases []communication) []bool {
+	fits := make([]bool, len(cases))
 	for index, c := range cases {
-		if r.canProceed(c) {
+		channel := r.channels[c.port]
+		if c.isSend {
+			fits[index] = len(channel) < cap(channel) || r.isClosed[c.port]
+		} else {
+			fits[index] = len(channel) > 0 || r.isClosed[c.port]
+		}
+	}
+	return fits
+}
+
+// ready gives the cases that could proceed when a call was made, by their ports or by a call that waited. Nothing that Go is asked
+// depends on it: it says which choice word asks for the case that Go drew.
+func (r *run) ready(asked choice) []int {
+	var ready []int
+	for index, c := range r.followed[asked.place].cases {
+		if asked.fits[index] || r.someoneWaits(asked.open, !c.isSend, c.port) {
 			ready = append(ready, index)
 		}
 	}
 	return ready
 }
 
-func (r *run) canProceed(c communication) bool {
-	if c.port == 0 {
-		return false
-	}
-	channel := r.channels[c.port]
-	fits := len(channel) > 0
-	if c.isSend {
-		fits = len(channel) < cap(channel)
-	}
-	return fits || r.isClosed[c.port] || r.someoneWaits(!c.isSend, c.port)
-}
-
-func (r *run) someoneWaits(isSend bool, port int) bool {
-	for _, o := range r.open {
+func (r *run) someoneWaits(open []openCall, isSend bool, port int) bool {
+	for _, o := range open {
 		for _, c := range r.followed[o.place].cases {
 			if c.isSend == isSend && c.port == port {
-				return true
+				return port != 0
 			}
 		}
 	}
 	return false
+}
+
+// setWords has each call ask for the case that Go took. It comes last: once a case of a waiting call has moved to port 0, it no
+// longer made a case of another call ready.
+func (r *run) setWords() {
+	for _, c := range r.choices {
+		e := &r.followed[c.place]
+		e.word = wordFor(e.word, r.ready(c), c.fired)
+	}
 }
 
 // wordFor gives the word nearest to this one that asks for the case `fired` of those that can proceed. Where that case is none

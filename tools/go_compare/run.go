@@ -14,6 +14,7 @@ type run struct {
 	isClosed  map[int]bool  // by port
 	open      []openCall    // those that wait, oldest first
 	followed  []entry       // the entries, changed to ask for what Go drew
+	choices   []choice      // of calls of which several cases could proceed
 	events    []string
 	counts    counts
 }
@@ -22,6 +23,14 @@ type run struct {
 type openCall struct {
 	pid   int
 	place int
+}
+
+// choice is a call, what let its cases proceed when it was made, and the case that Go took.
+type choice struct {
+	place int
+	fits  []bool     // by case, whether its port did
+	open  []openCall // those that waited
+	fired int
 }
 
 // counts of what Go drew.
@@ -49,6 +58,7 @@ func runJournal(asked journal, isPlain bool) (journal, []string, counts) {
 			break
 		}
 	}
+	r.setWords()
 	r.endAll()
 	if left := runtime.NumGoroutine() - before; left != 0 {
 		panic(fmt.Sprintf("%d goroutines are left", left))
@@ -68,10 +78,10 @@ func (r *run) step(e entry) bool {
 		r.tell(e.pid, answer{noCase, fmt.Sprintf("fault %d", fault)})
 		return true
 	}
-	ready := r.ready(e.cases)
+	asked := choice{place: len(r.followed) - 1, fits: r.fits(e.cases), open: r.open}
 	r.begin(e)
 	settle()
-	r.tellCaller(ready)
+	r.tellCaller(asked)
 	r.tellEnded()
 	return !r.isStalled() || r.stall()
 }
@@ -99,7 +109,17 @@ func (r *run) begin(e entry) {
 		wayOut := r.processes[e.number].wayOut
 		p.give(func() answer {
 			wayOut <- struct{}{}
-			return answer{noCase, "done"}
+			return done
+		})
+	case "start":
+		p.give(func() answer {
+			r.processes[e.number] = startProcess()
+			return done
+		})
+	case "reopen":
+		p.give(func() answer {
+			r.channels[e.number] = make(chan string, e.capacity)
+			return done
 		})
 	case "exit":
 		p.exit()
@@ -114,23 +134,23 @@ func (r *run) offers(cases []communication) []offer {
 	return offers
 }
 
-// tellCaller tells what the last step was answered. These cases could proceed before it, if it was a call.
-func (r *run) tellCaller(ready []int) {
-	place := len(r.followed) - 1
-	e := &r.followed[place]
+// tellCaller tells what the last step was answered.
+func (r *run) tellCaller(asked choice) {
+	e := r.followed[asked.place]
 	told := r.processes[e.pid].told.Load()
 	if told == nil {
-		r.open = append(r.open, openCall{e.pid, place})
+		r.open = append(r.open, openCall{e.pid, asked.place})
 		r.tell(e.pid, answer{noCase, "parked"})
 		return
 	}
-	if e.step == "close" && told.what == "done" {
-		r.isClosed[e.number] = true
+	if *told == done && (e.step == "close" || e.step == "reopen") {
+		r.isClosed[e.number] = e.step == "close"
 	}
 	ended := r.named(*told, e.cases)
-	if len(ready) > 1 {
+	if len(r.ready(asked)) > 1 {
 		r.counts.drawn++
-		e.word = wordFor(e.word, ready, ended.index)
+		asked.fired = ended.index
+		r.choices = append(r.choices, asked)
 	}
 	r.tell(e.pid, ended)
 }

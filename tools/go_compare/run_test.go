@@ -71,13 +71,35 @@ var rows = []row{
 		events:   "0 made 1\n1 fault 12\n0 parked\n",
 	},
 	{
+		name:   "a process comes back",
+		asked:  "0 make 0\n1 exit\n0 start 1\n1 recv 1\n0 send 1 7\n1 exit\n0 start 1\n0 recv 1\n1 send 1 8\n",
+		events: "0 made 1\n1 done\n0 done\n1 parked\n0 case 0 sent\n1 case 0 got 7\n1 done\n0 done\n0 parked\n1 case 0 sent\n0 case 0 got 8\n",
+	},
+	{
+		name:   "a process that came back is waited for",
+		asked:  "0 make 0\n1 exit\n0 start 1\n0 recv 1\n1 recv 1\n1 exit\n0 recv 1\n",
+		events: "0 made 1\n1 done\n0 done\n0 parked\n1 parked\n0 stalled\n1 stalled\n1 done\n0 parked\n0 stalled\n",
+	},
+	{
+		name:    "a port opens again, plain",
+		isPlain: true,
+		asked:   "0 make 0\n1 recv 1\n0 close 1\n0 reopen 1 1\n1 send 1 7\n1 send 1 8\n0 recv 1\n0 close 1\n0 recv 1\n0 recv 1\n",
+		events: "0 made 1\n1 parked\n0 done\n1 case 0 drained\n0 done\n1 case 0 sent\n1 parked\n0 case 0 got 7\n1 case 0 sent\n0 done\n" +
+			"0 case 0 got 8\n0 case 0 drained\n",
+	},
+	{
+		name:   "what cannot come back",
+		asked:  "0 start 1\n0 start 2\n0 make 1\n0 reopen 1 0\n0 send 1 7\n0 close 1\n0 reopen 1 0\n0 reopen 2 1025\n0 reopen 0 1025\n0 reopen 0 0\n",
+		events: "0 fault 17\n0 fault 17\n0 made 1\n0 fault 16\n0 case 0 sent\n0 done\n0 fault 16\n0 fault 5\n0 fault 6\n0 fault 8\n",
+	},
+	{
 		name:   "what is refused",
 		asked:  "0 make 1025\n0 recv 1\n0 close 1\n0 make 1024\n0 send 1 #00ff\n1 recv 1\n",
 		events: "0 fault 6\n0 fault 5\n0 fault 5\n0 made 1\n0 case 0 sent\n1 case 0 got #00ff\n",
 	},
 }
 
-const head = "chanhub journal 2\nprocs 2\n"
+const head = "chanhub journal 3\nprocs 2\n"
 
 func TestRows(t *testing.T) {
 	for _, row := range rows {
@@ -133,6 +155,29 @@ func TestCloseMeetsBothSides(t *testing.T) {
 	}
 	if text := outcome("0 make 0\n0 select 1 s1:3 r1\n1 close 1\n"); !allowed[text] {
 		t.Errorf("the close gives\n%s", text)
+	}
+}
+
+// A select that is made while another waits asks for its case among those that can proceed once a case of the other has moved.
+func TestSelectBeforeAClose(t *testing.T) {
+	const (
+		head   = "0 make 0\n0 make 1\n"
+		waits  = "0 select 0 s1:3 r1\n"
+		moved  = "0 select 0 s0:3 r1\n"
+		close  = "1 close 1\n"
+		events = "0 made 1\n0 made 2\n0 parked\n"
+	)
+	allowed := map[string]bool{
+		head + moved + "1 select 4 s2:1 s2:2 r1\n" + close + events + "1 case 0 sent\n1 done\n0 case 1 drained\n": true,
+		head + moved + "1 select 5 s2:1 s2:2 r1\n" + close + events + "1 case 1 sent\n1 done\n0 case 1 drained\n": true,
+		head + waits + "1 select 3 s2:1 s2:2 r1\n" + close + events + "1 case 0 sent\n1 done\n0 case 0 closed\n":  true,
+		head + waits + "1 select 4 s2:1 s2:2 r1\n" + close + events + "1 case 1 sent\n1 done\n0 case 0 closed\n":  true,
+		head + waits + "1 select 5 s2:1 s2:2 r1\n" + close + events + "1 case 2 got 3\n0 case 0 sent\n1 done\n":   true,
+	}
+	for i := 0; i < 100; i++ {
+		if text := outcome(head + waits + "1 select 4 s2:1 s2:2 r1\n" + close); !allowed[text] {
+			t.Fatalf("Go drew\n%s", text)
+		}
 	}
 }
 

@@ -36,6 +36,7 @@ struct worker {
 static chanhub *hub;
 static struct run run;
 static atomic_bool done;
+static atomic_uint left; /* how many threads have made all of their calls */
 static atomic_int failures;
 
 /* ---- Random choices. ---- */
@@ -156,6 +157,16 @@ static chanhub_told turn_of_lives(struct worker *w) {
     return turn(w);
 }
 
+/* The process exits; in edition 3 again and again, until nobody is left who may start it. */
+static void leave(struct worker *w) {
+    left++;
+    while (run.edition == 3 && left < run.procs) {
+        keep(w, chanhub_exit(hub, w->pid));
+        usleep(50);
+    }
+    keep(w, chanhub_exit(hub, w->pid));
+}
+
 static void *work(void *at) {
     struct worker *w = at;
     for (unsigned i = 0; i < run.turns; i++) {
@@ -163,7 +174,7 @@ static void *work(void *at) {
         if (below(&w->random, 40) == 0) usleep(below(&w->random, 200));
         keep(w, run.edition == 3 ? turn_of_lives(w) : turn(w));
     }
-    keep(w, chanhub_exit(hub, w->pid));
+    leave(w);
     return NULL;
 }
 
@@ -221,6 +232,7 @@ static void make_run(const char *folder, uint64_t seed) {
     chanhub_files files = { .name = name };
     run = run_of(seed);
     done = false;
+    left = 0;
     if (chanhub_open_endless(&hub, run.edition, run.procs, run.keep, write_chapter, &files)) exit(2);
     for (uint32_t port = 0; port < 3; port++) failures += chanhub_make(hub, 0, port * run.buffer).what != CHANHUB_MADE;
     for (unsigned pid = 0; pid < run.procs; pid++) {

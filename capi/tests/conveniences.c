@@ -75,7 +75,7 @@ static void texts(void) {
         "made", "sent", "got", "drained", "closed", "default", "done", "parked", "stalled", "fault", "cancelled", "timed out",
     };
     are_texts("errors", chanhub_strerror, 0, 7);
-    are_texts("faults", chanhub_strfault, 0, CHANHUB_NOT_YET);
+    are_texts("faults", chanhub_strfault, 0, CHANHUB_NOT_GONE);
     are_texts("kinds", chanhub_what_name, CHANHUB_MADE, CHANHUB_TIMED_OUT);
     for (int what = CHANHUB_MADE; what <= CHANHUB_TIMED_OUT; what++) has_text("kind", chanhub_what_name(what), names[what - 1]);
     has_text("no kind", chanhub_what_name(0), chanhub_what_name(99));

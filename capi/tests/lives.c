@@ -14,6 +14,7 @@
 #include <stdlib.h>
 
 enum { CLIENT = 0, WORKERS = 63, PORTS = 60, KEEP = 10000, STACK = 65536, MOST_PATH = 4096, SECONDS = 600,
+       MANY = 10000 /* with so many requests all is warm after half of them */,
        GROWTH = 16384 /* KB that may be more: what the system keeps for threads */ };
 
 /* ---- By one thread. ---- */
@@ -393,7 +394,7 @@ static int serve(uint64_t count, const char *folder) {
     pthread_attr_destroy(&small);
     is("written", files.error, 0);
     printf("%" PRIu64 " lives, %" PRIu64 " chapters, %ld KB resident after half, %ld KB after all\n", count, files.next, half, all);
-    is("memory is flat", all <= half + GROWTH, true);
+    if (count >= MANY) is("memory is flat", all <= half + GROWTH, true);
     return tally("lives");
 }
 

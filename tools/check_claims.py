@@ -17,8 +17,9 @@ import re
 import sys
 
 sys.dont_write_bytecode = True
-from claims import edits, files, public_calls, read, sources, specs_file
+from claims import files, public_calls, read, sources, specs_file
 from crates import ROOT, read_lines
+from edit_files import names_by_call
 
 SHORT = {name.removeprefix('hub_'): name for name in read_lines()}
 TICKED = re.compile(r'`([^`]+)`')
@@ -64,9 +65,9 @@ def known():
     found = found.union(*(labels_of(call) for call in all_calls().values()))
     for crate in read_lines():
         specs = files(crate, 'specs', '**', '*.antt')
-        turning = [path for paths in edits(crate).values() for path in paths]
+        found = found.union(*names_by_call(crate).values())
         found = found.union(*map(declared, sources(crate)), *map(defined, specs))
-        found |= {os.path.splitext(os.path.basename(path))[0] for path in [*specs, *turning]}
+        found |= {os.path.splitext(os.path.basename(path))[0] for path in specs}
     return found
 
 
@@ -103,11 +104,11 @@ def wrong_page(page):
 
 
 def wrong_edits(crate, unturned):
-    calls, texts = public_calls(crate), [read(path) for path in sources(crate)]
-    yield from (f'{path} names no public call of {crate}' for name, paths in edits(crate).items() if name not in calls for path in paths)
+    calls, texts, turning = public_calls(crate), [read(path) for path in sources(crate)], names_by_call(crate)
+    yield from (f'{name} of {crate} names no public call' for call, names in turning.items() if call not in calls for name in names)
     traits = {name for text in texts for name in re.findall(r'^pub trait (\w+)', text, re.M)}
     laws = {name for text in texts for name in LAW.findall(text)}
-    lacking = {name for name in calls if name.split('::')[0] not in traits} - edits(crate).keys() - laws
+    lacking = {name for name in calls if name.split('::')[0] not in traits} - turning.keys() - laws
     yield from (f'no edit turns {name} of {crate}' for name in sorted(lacking - unturned))
     yield from (f'{name} of {crate} is no call without an edit' for name in sorted(unturned - lacking))
 

@@ -18,7 +18,7 @@ from collections import namedtuple
 
 sys.dont_write_bytecode = True
 from crates import ROOT, folder, is_program, read_lines
-from edit_files import FOLDERS
+from edit_files import names_by_call
 
 Call = namedtuple('Call', 'name path doc requires ensures definitions')
 # What begins an item or a method, in a source whose functions have no words but `pub` before `fn`.
@@ -126,16 +126,6 @@ def public_calls(crate):
     return {call.name: call for path in sources(crate) for call in calls_in(path, names)}
 
 
-@functools.lru_cache(maxsize=None)
-def edits(crate):
-    """The paths of a crate's must-fail edits, by the call that each turns; '' for those without a line `call:`."""
-    found = {}
-    for path in (path for place in FOLDERS for path in files(crate, place, '*.edit')):
-        line = re.match(r'call: (\S+)\n', read(path))
-        found.setdefault(line[1] if line else '', []).append(path)
-    return found
-
-
 def definitions_told(crate, places):
     """The definitions, file by file, with the crate of each that is another's."""
     by_file = {}
@@ -146,7 +136,7 @@ def definitions_told(crate, places):
 
 def entry(crate, call):
     """The lines of the index on a call."""
-    turned = [os.path.basename(path).removesuffix('.edit') for path in edits(crate).get(call.name, ())]
+    turned = names_by_call(crate).get(call.name, ())
     parts = {'requires': ', '.join(call.requires), 'ensures': ', '.join(call.ensures),
              'definitions': definitions_told(crate, call.definitions), 'edits': ', '.join(turned)}
     told = [call.doc, *(f'{name}: {text}' for name, text in parts.items() if text)]

@@ -1,4 +1,16 @@
-"""Must-fail edits: their files, which functions they change, and which of them can be made together."""
+"""Must-fail edits: a crate's table of them, which functions they change, and which of them can be made together.
+
+The table is crates/NAME/edits.txt. An edit is some lines in a row, and a blank line ends it:
+
+    edit: NAME
+    call: NAME       the public call that it turns
+    gate: yes        if the gate tries it
+    file: PATH       a source of the crate
+    old: TEXT        stands in that source once
+    new: TEXT        is put in its place
+
+The last two may come again, and so may the last three.
+"""
 import os
 import re
 import shutil
@@ -6,7 +18,8 @@ import shutil
 from crates import ROOT, folder
 
 PARTS = ('src', 'specs', 'proofs')
-FOLDERS = ('edits', 'further-edits')
+TABLE = 'edits.txt'
+NAME = re.compile(r'edit: (\w+)$', re.M)
 FUNCTION = re.compile(r'^( *)(?:pub(?:\([a-z]+\))? )?(?:extern "C" )?fn (\w+)', re.M)
 BLOCK = re.compile(r'^impl\b.*\{', re.M)
 
@@ -15,20 +28,30 @@ class BadEdit(Exception):
     pass
 
 
+def changes_in(lines):
+    """The changes that the lines of an edit tell, in order: each a file, the old text and the new one."""
+    file = old = None
+    for key, rest in lines:
+        if key == 'file':
+            file = rest.strip()
+        elif key == 'old':
+            old = rest.removeprefix(' ')
+        elif key == 'new':
+            yield file, old, rest.removeprefix(' ')
+
+
 class Edit:
-    def __init__(self, crate, path):
+    """One of them, by its crate and its lines."""
+
+    def __init__(self, crate, text):
         self.crate = crate
-        self.path = path
-        self.changes = []
-        file = old = None
-        with open(path) as lines:
-            for line in lines.read().split('\n'):
-                if line.startswith('file: '):
-                    file = line[len('file: '):].strip()
-                elif line.startswith('old: '):
-                    old = line[len('old: '):]
-                elif line.startswith('new:'):
-                    self.changes.append((file, old, line[len('new:'):].removeprefix(' ')))
+        self.text = text
+        lines = [line.partition(':')[::2] for line in text.split('\n')]
+        words = {key: rest.strip() for key, rest in lines}
+        self.own_name = words['edit']
+        self.call = words.get('call', '')
+        self.is_of_gate = words.get('gate') == 'yes'
+        self.changes = list(changes_in(lines))
         if not self.changes:
             raise BadEdit('it changes nothing')
         _, self.functions = self.made({})
@@ -61,7 +84,7 @@ class Edit:
         return max((worth for worth, it in parts if '::%s::' % it in '::%s::' % function), default=0)
 
     def name(self):
-        return self.crate + '/' + os.path.basename(self.path)
+        return self.crate + '/' + self.own_name
 
 
 class Batch:
@@ -131,15 +154,33 @@ def copy_of(crate, room, texts):
             target.write(text)
 
 
-def read_edits(crate, where, asked, bad):
-    """Those of a crate in these folders that were asked for, by its name or by theirs."""
+def texts_of(crate):
+    """The lines of each of a crate's edits."""
+    place = os.path.join(folder(ROOT, crate), TABLE)
+    if not os.path.exists(place):
+        return []
+    with open(place) as table:
+        return [it.strip('\n') for it in re.split(r'\n\n+', table.read()) if it.strip()]
+
+
+def names_by_call(crate):
+    """The names of a crate's edits, by the call that each turns; '' for those that name none."""
+    found = {}
+    for text in texts_of(crate):
+        call = re.search(r'^call: (\S+)$', text, re.M)
+        found.setdefault(call[1] if call else '', []).append(NAME.match(text)[1])
+    return found
+
+
+def read_edits(crate, asked, bad):
+    """Those of a crate that were asked for, by its name or by theirs."""
     edits = []
-    for place in (os.path.join(folder(ROOT, crate), it) for it in where):
-        for name in sorted(os.listdir(place)) if os.path.isdir(place) else []:
-            if asked and crate not in asked and '%s/%s' % (crate, name.removesuffix('.edit')) not in asked:
-                continue
-            try:
-                edits.append(Edit(crate, os.path.join(place, name)))
-            except (BadEdit, OSError) as error:
-                bad.append('%s/%s: BAD EDIT: %s' % (crate, name, error))
+    for text in texts_of(crate):
+        name = '%s/%s' % (crate, NAME.match(text)[1])
+        if asked and crate not in asked and name not in asked:
+            continue
+        try:
+            edits.append(Edit(crate, text))
+        except (BadEdit, OSError) as error:
+            bad.append('%s: BAD EDIT: %s' % (name, error))
     return edits

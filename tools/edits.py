@@ -4,10 +4,9 @@
     edits.py [--further] [--lacking] [--proved-in LOG] [--jobs N] [CRATE[/NAME] ..]
     edits.py --read [CRATE ..]
 
-Those in the folders `edits`, which the gate tries, and after --further those in `further-edits` too; of these crates, or of all; or
-one by its name. After --lacking only those of which edits_tried.toml does not say that they were refused over the present contracts.
-An edit is a file with a line `call: NAME`, the public call that it turns, a line `file: PATH`, and pairs of lines `old: TEXT` and
-`new: TEXT`, where the old text stands in that file once.
+Those of the tables crates/NAME/edits.txt that the gate tries, and after --further the others too; of these crates, or of all; or one by
+its name. After --lacking only those of which edits_tried.toml does not say that they were refused over the present contracts. The form of
+the tables is told in edit_files.py.
 
 It goes over the libraries that `rt ci` or `rt lib` left, and proves no crate whole. Of each crate the functions that its edits
 change are proved first, unchanged, with what they call; this shows that what is refused later is refused for its edit. With
@@ -22,7 +21,7 @@ One that is not refused beside others is tried alone. Prints a line for each edi
 refused: `N passed, M failed`. Status 0 where none failed, and something was tried. After --further writes to edits_tried.toml which
 were refused, and over which contracts.
 
-After --read none is tried: all edits of the crates, further ones too, are made on copies and read by the compiler's front end, which
+After --read none is tried: all edits of the crates are made on copies and read by the compiler's front end, which
 checks names and types; but not where edits_tried.toml says that it has read the same edits with the same sources. What was read is
 written there. A crate fails if the record does not say of each of its edits that it was refused over the present contracts.
 """
@@ -43,7 +42,7 @@ sys.dont_write_bytecode = True
 import edit_verdicts as verdicts
 import edits_tried
 from crates import ROOT, folder, read_crates, words_of
-from edit_files import FOLDERS, BadEdit, Batch, batches_of, copy_of, read_edits
+from edit_files import BadEdit, Batch, batches_of, copy_of, read_edits
 
 # as many checks at a time as main says
 turns = threading.Semaphore()
@@ -323,9 +322,10 @@ def main():
     for _ in range(1, words.jobs):
         turns.release()
     bad = []
-    where = FOLDERS if words.further or words.read else FOLDERS[:1]
-    found = {crate: read_edits(crate, where, words.asked, bad) for crate in read_crates()}
-    there = {name for crate, edits in found.items() for name in (crate, *(it.name().removesuffix('.edit') for it in edits))}
+    found = {crate: read_edits(crate, words.asked, bad) for crate in read_crates()}
+    if not words.further and not words.read:
+        found = {crate: [it for it in edits if it.is_of_gate] for crate, edits in found.items()}
+    there = {name for crate, edits in found.items() for name in (crate, *(it.name() for it in edits))}
     bad += ['%s: there is no such crate or edit' % it for it in words.asked if it not in there]
     if words.lacking:
         found = {crate: edits_tried.lacking(crate, edits) for crate, edits in found.items()}

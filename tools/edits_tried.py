@@ -8,11 +8,11 @@ import tomllib
 
 from crates import ROOT, below, folder, read_crates
 from edit_contracts import contracts, files, read_text
-from edit_files import FOLDERS, read_edits
+from edit_files import read_edits
 
 RECORD = os.path.join(ROOT, 'tools', 'edits_tried.toml')
 HEAD = """# Per crate, when edits were tried last: by `tools/edits.py --further CRATE`, or single ones, CRATE/NAME, which write this. `refused`
-# has a sum for each edit that was refused: of its name, its text, and all that it is judged by, which is the contracts of the functions
+# has a sum for each edit that was refused: of its lines, and all that it is judged by, which is the contracts of the functions
 # that it changes and of those that these call, and the definitions of both. `kinds` is what the last run of all told. `read` is a sum
 # over edits and sources that the compiler has read together. `tools/edits.py --read` fails unless each edit is among those refused;
 # imports, proofs and what bodies do have no sums.
@@ -28,19 +28,15 @@ def sum_of(texts, length=8):
 
 
 def edit_sum(edit):
-    """The sum of an edit, in whichever folder it stands, and of all that it is judged by."""
-    return sum_of([os.path.basename(edit.path), read_text(edit.path), *contracts(edit.crate).of(edit)])
+    """The sum of an edit and of all that it is judged by."""
+    return sum_of([edit.text, *contracts(edit.crate).of(edit)])
 
 
-def name_of(path):
-    return os.path.basename(path).removesuffix('.edit')
-
-
-def sources_sum(crate, paths):
+def sources_sum(crate, edits):
     """A sum over the crate's edits, its sources, and those below it."""
     crates = read_crates()
     sources = [it for name in sorted({crate} | below(crate, crates)) for it in files(os.path.join(folder(ROOT, name), 'src'), '.rt')]
-    return sum_of((read_text(it) for it in sources + sorted(paths)), 16)
+    return sum_of([*map(read_text, sources), *sorted(it.text for it in edits)], 16)
 
 
 def read_record():
@@ -59,14 +55,14 @@ def lacking(crate, edits):
 def lacks(by_crate):
     """What to say of each crate of which the record lacks something."""
     for crate, edits in by_crate.items():
-        names = ', '.join(sorted(name_of(it.path) for it in lacking(crate, edits)))
+        names = ', '.join(sorted(it.own_name for it in lacking(crate, edits)))
         if names:
             yield '%s: not known to be refused over the present contracts: %s: tools/edits.py --further --lacking %s' % (crate, names, crate)
 
 
 def are_read(crate, edits):
     """Whether the compiler has read these edits with the sources that stand now."""
-    return read_record().get(crate, {}).get('read') == sources_sum(crate, [it.path for it in edits])
+    return read_record().get(crate, {}).get('read') == sources_sum(crate, edits)
 
 
 def list_of(name, words):
@@ -101,7 +97,7 @@ def record_read(by_crate):
     record = read_record()
     for crate, edits in by_crate.items():
         if crate in record:
-            record[crate]['read'] = sources_sum(crate, [it.path for it in edits])
+            record[crate]['read'] = sources_sum(crate, edits)
     write_record(record)
 
 
@@ -120,7 +116,7 @@ def record_tried(by_crate, whole, refused):
         if not told:
             continue
         old = record.get(crate, {})
-        there = {edit_sum(it) for it in read_edits(crate, FOLDERS, [], [])}
+        there = {edit_sum(it) for it in read_edits(crate, [], [])}
         sums = beside(old.get('refused', ()), {edit_sum(it.edit): it.kind in refused for it in told}, there)
         new = {'date': datetime.date.today(), 'commit': commit, 'refused': sums}
         if crate in whole:

@@ -9,9 +9,14 @@
     one_busy        63 processes wait for ever, and one sends and receives
     worst_close     a port has some 2,000 dead entries and 61 receivers when it is closed; so 62 ports, one after the other
     faults          steps that are refused or faulty, and nothing else
+    idle_workers    60 processes wait for ever, and then two wait in turn, each until a value comes
+    renewed_workers 62 processes wait for one port, and who gets a value, the one that waited longest, waits anew
+    cancels         63 processes wait for one port each; the calls of random ones are cancelled and made anew
+    many_cancels    the same with selects of 16 cases
+    lives           a process exits and is started again, a port is closed and opened again, by 62 processes in turn
 
-All have 64 processes but for `faults`, which has 4. Each has some 40,000 lines, `worst_close` 19,657. Those with selects of more
-than 8 cases are of the second edition, the others of the first.
+All have 64 processes but for `faults`, which has 4. Each has some 40,000 lines, `worst_close` 19,657. `lives` is of the third edition,
+those with cancels or with selects of more than 8 cases are of the second, the others of the first.
 """
 import collections
 import itertools
@@ -111,6 +116,56 @@ def faults():
         )[below(6)]
 
 
+def idle_workers():
+    """Who waits is newer than all that wait for ever, and ends before the other that came with it."""
+    yield from ['63 make 0', '63 make 0', '63 make 0']
+    yield from ('%d recv 3' % process for process in range(60))
+    yield '60 recv 1'
+    for value in itertools.count():
+        for own, other in ((60, 61), (61, 60)):
+            yield '%d recv %d' % (other, other - 59)
+            yield '63 send %d %d' % (own - 59, value)
+
+
+def renewed_workers():
+    yield '63 make 0'
+    yield from ('%d recv 1' % process for process in range(62))
+    for value in itertools.count():
+        yield '63 send 1 %d' % value
+        yield '%d recv 1' % (value % 62)
+
+
+def cancelled(seed, cases):
+    """One process's calls each time: cancelled, and made anew."""
+    below = numbers(seed)
+    ports = 62 if cases > 1 else 63
+    waits = '%d recv %d' if cases == 1 else '%d select 1 %s'
+
+    def wait(process):
+        asked = process + 1 if cases == 1 else receives(1 + below(ports) for _ in range(cases))
+        return waits % (process, asked)
+
+    yield from ['63 make 0'] * ports
+    yield from map(wait, range(63))
+    while True:
+        process = below(63)
+        yield '63 cancel %d' % process
+        yield wait(process)
+
+
+def lives():
+    """Process 63 makes all that is said of others."""
+    yield from ['63 make 4'] * 62
+    for number in itertools.cycle(range(62)):
+        port = number + 1
+        yield '%d send %d 7' % (number, port)
+        yield '63 recv %d' % port
+        yield '%d close %d' % (number, port)
+        yield '%d exit' % number
+        yield '63 reopen %d 4' % port
+        yield '63 start %d' % number
+
+
 # of each the edition, how many processes it has, and its entries
 JOURNALS = {
     'open_calls': (2, PROCESSES, open_calls),
@@ -119,6 +174,11 @@ JOURNALS = {
     'one_busy': (1, PROCESSES, one_busy),
     'worst_close': (2, PROCESSES, worst_close),
     'faults': (1, 4, faults),
+    'idle_workers': (1, PROCESSES, idle_workers),
+    'renewed_workers': (1, PROCESSES, renewed_workers),
+    'cancels': (2, PROCESSES, lambda: cancelled(24, 1)),
+    'many_cancels': (2, PROCESSES, lambda: cancelled(25, 16)),
+    'lives': (3, PROCESSES, lives),
 }
 
 

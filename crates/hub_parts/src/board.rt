@@ -245,8 +245,9 @@ impl Board {
         channel.shut();
     }
 
-    /// Opens a port again, with this capacity and an empty buffer. The calls that wait there still wait. It takes all
-    /// the memory that the buffer will ever need; after an error the board is as before.
+    /// Opens a port again, with this capacity and an empty buffer. The calls that wait there still wait. A buffer of the
+    /// same capacity stays where it is; another takes all the memory that it will ever need. After an error the board is as
+    /// before.
     pub fn reopen(&mut self, port: Port, cap: u32) -> Result<(), NoMemory>
         requires { IsMade self.old port }
         ensures ok { OnOk result (self.new ≡ with_port self.old port (new_port cap)) }

@@ -101,6 +101,15 @@ impl Ring {
         })
     }
 
+    /// Drops all values, and keeps the room.
+    pub fn clear(&mut self)
+        ensures { self.new ≡ buffer [] self.old.capacity }
+    {
+        self.len = 0;
+        self.numbers.clear();
+        self.others.clear();
+    }
+
     /// A ring with room for as many values, and with the same ones.
     pub(crate) fn copy(&self, alloc: Global) -> Result<Ring, AllocError>
         ensures { IfOk result (λ r. r ≡ self.now) }

@@ -12,13 +12,12 @@ use Rattle.hub_parts.specs.Channels.{channel_of, no_channel, queue_of}
 use Rattle.hub_parts.specs.Keeps.{BoardKeeps}
 use Rattle.std.specs.List.{AllByRecursion}
 use Rattle.std.specs.Vec.{vec_capacity}
-use Rattle.hub_base.specs.declared.value.Pid.{Pid}
 use Rattle.hub_base.specs.declared.limits.TheConstants.{CASE_PLACES}
 use Rattle.hub_parts.specs.declared.tickets.Tickets.TheInside.{Inside}
 use Rattle.hub_parts.specs.declared.tickets.case_counts.CaseCounts.{CaseCounts}
 use Rattle.hub_parts.specs.declared.tickets.TheConstants.{PIDS}
 use Rattle.hub_parts.specs.CaseCounts.{IsCountOf}
-use Rattle.hub_parts.specs.Tickets.{AreApart, IsMarked, TicketsFit, calls_of, pids}
+use Rattle.hub_parts.specs.Tickets.{AreApart, IsMarked, TicketsFit, calls_of}
 use Rattle.hub_parts.specs.Records.{Calls, ChannelLists, PortLists, Ticketed}
 use Rattle.hub_parts.specs.Shapes.{HaveOneShape}
 
@@ -94,14 +93,14 @@ caps-shown (c ∷ cs) = ap (λ ns. c.lists.cap ∷ ns) (caps-shown cs)
 pub fits-again : (t u : Inside) → TicketsFit t → u.procs ≡ t.procs → u.opened.items ≡ t.opened.items → u.procs ≤ vec_capacity u.opened
     → u.calls.items ≡ t.calls.items → u.counts ≡ t.counts → u.parked ≡ t.parked → TicketsFit u
 fits-again t u fit procs opened room calls counts parked = record {
-  distinct = subst (λ (os : List Pid). AreApart (pids os)) (sym opened) fit.distinct;
-  below = subst (λ (os : List Pid). AllByRecursion (λ q. q < u.procs) (pids os)) (sym opened)
-      (subst (λ n. AllByRecursion (λ q. q < n) (pids t.opened.items)) (sym procs) fit.below);
+  distinct = subst (λ (os : List ℕ). AreApart os) (sym opened) fit.distinct;
+  below = subst (λ (os : List ℕ). AllByRecursion (λ q. q < u.procs) os) (sym opened)
+      (subst (λ n. AllByRecursion (λ q. q < n) t.opened.items) (sym procs) fit.below);
   room = room;
   small = subst (λ n. n < PIDS) (sym procs) fit.small;
   places = ap length calls ∙ fit.places ∙ sym procs;
   few = subst (λ (ws : List Ticketed). AllByRecursion (λ w. length w.call.cases ≤ CASE_PLACES) ws) (λ i. calls_of (sym calls i) (sym opened i)) fit.few;
-  marked = subst (λ marks. IsMarked marks u.opened.items) (sym parked) (subst (λ (os : List Pid). IsMarked t.parked os) (sym opened) fit.marked);
+  marked = subst (λ marks. IsMarked marks u.opened.items) (sym parked) (subst (λ (os : List ℕ). IsMarked t.parked os) (sym opened) fit.marked);
   counted = subst (λ (k : CaseCounts). IsCountOf k (calls_of u.calls.items u.opened.items)) (sym counts)
       (subst (λ (ws : List Ticketed). IsCountOf t.counts ws) (λ i. calls_of (sym calls i) (sym opened i)) fit.counted);
 }

@@ -21,7 +21,7 @@ use Rattle.hub_parts.specs.Lists.{open_calls, passes}
 use Rattle.hub_parts.specs.CaseCounts.{changed, with_changed, all_changed, CaseAllows, AllAllow, one_more, one_less, with_raised}
 use Rattle.hub_parts.specs.CaseCounts.{with_lowered, CanRaise, CanLower, CanGrow, has_case, passing, all_passing, CountsCases, IsCountOf}
 use Rattle.hub_parts.specs.declared.tickets.LastCall.{LastCall}
-use Rattle.hub_parts.specs.Tickets.{AreApart, pids, calls_of, cases_of}
+use Rattle.hub_parts.specs.Tickets.{AreApart, calls_of, cases_of}
 
 abbrev iterate : (ℕ → ℕ) → ℕ → ℕ → ℕ
 iterate f zero x = x
@@ -188,63 +188,63 @@ counts_opened t ws w k = record {
   recvs_length = length-all_changed one_more recvs_of is_recv_on (recvs_half one_more) t w.call.cases ∙ k.recvs_length;
 }
 
-abbrev others : Pid → List Pid → List Pid
-others pid os = filter (λ o. not (o.0 == pid.0)) os
+abbrev others : Pid → List ℕ → List ℕ
+others pid os = filter (λ o. not (o == pid.0)) os
 
-others_all : (pid : Pid) (os : List Pid) (q : ℕ) → q ≡ pid.0 → AllByRecursion (λ y. (q == y) ≡ false) (pids os) → others pid os ≡ os
+others_all : (pid : Pid) (os : List ℕ) (q : ℕ) → q ≡ pid.0 → AllByRecursion (λ y. (q == y) ≡ false) os → others pid os ≡ os
 others_all pid [] q e a = refl
 others_all pid (o ∷ os) q e a =
-    let apart : (q == o.0) ≡ false = a.0 in
-    let other : (o.0 == pid.0) ≡ false = grind (arith, nat_tests) in
+    let apart : (q == o) ≡ false = a.0 in
+    let other : (o == pid.0) ≡ false = grind (arith, nat_tests) in
     rw other (ap (λ rest. o ∷ rest) (others_all pid os q e a.1))
 
 -- without the call of a process there are as many fewer as it has
-ended_step : (test : Case → Bool) (places : List LastCall) (pid : Pid) (o : Pid) (os : List Pid) (b : Bool)
-    → (o.0 == pid.0) ≡ b → AllByRecursion (λ y. (o.0 == y) ≡ false) (pids os) → (list_any (λ o. o.0 == pid.0) os ≡ true
-    → all_passing test (calls_of places (others pid os)) + passing test (cases_of places pid) ≡ all_passing test (calls_of places os))
-    → (b || list_any (λ o. o.0 == pid.0) os) ≡ true
-    → all_passing test (calls_of places (cond (not b) (o ∷ others pid os) (others pid os))) + passing test (cases_of places pid)
+ended_step : (test : Case → Bool) (places : List LastCall) (pid : Pid) (o : ℕ) (os : List ℕ) (b : Bool)
+    → (o == pid.0) ≡ b → AllByRecursion (λ y. (o == y) ≡ false) os → (list_any (λ o. o == pid.0) os ≡ true
+    → all_passing test (calls_of places (others pid os)) + passing test (cases_of places pid.0) ≡ all_passing test (calls_of places os))
+    → (b || list_any (λ o. o == pid.0) os) ≡ true
+    → all_passing test (calls_of places (cond (not b) (o ∷ others pid os) (others pid os))) + passing test (cases_of places pid.0)
     ≡ all_passing test (calls_of places (o ∷ os))
 ended_step test places pid o os true e apart ih any =
-    let same : o.0 ≡ pid.0 = eqb-true o.0 pid.0 e in
-    let here : passing test (cases_of places o) ≡ passing test (cases_of places pid) =
+    let same : o ≡ pid.0 = eqb-true o pid.0 e in
+    let here : passing test (cases_of places o) ≡ passing test (cases_of places pid.0) =
     ap (λ (n : ℕ). passing test (get_or places n (record { ticket = 0; cases = record { items = [] } })).cases.items) same in
-    rw (others_all pid os o.0 same apart) (omega (arith, here))
+    rw (others_all pid os o same apart) (omega (arith, here))
 ended_step test places pid o os false e apart ih any = omega (arith, ih any)
 
-all_passing-ended : (test : Case → Bool) (places : List LastCall) (pid : Pid) (os : List Pid)
-    → AreApart (pids os) → list_any (λ o. o.0 == pid.0) os ≡ true
-    → all_passing test (calls_of places (others pid os)) + passing test (cases_of places pid) ≡ all_passing test (calls_of places os)
+all_passing-ended : (test : Case → Bool) (places : List LastCall) (pid : Pid) (os : List ℕ)
+    → AreApart os → list_any (λ o. o == pid.0) os ≡ true
+    → all_passing test (calls_of places (others pid os)) + passing test (cases_of places pid.0) ≡ all_passing test (calls_of places os)
 all_passing-ended test places pid [] apart any = cc
 all_passing-ended test places pid (o ∷ os) apart any =
-    ended_step test places pid o os (o.0 == pid.0) refl apart.0 (all_passing-ended test places pid os apart.1) any
+    ended_step test places pid o os (o == pid.0) refl apart.0 (all_passing-ended test places pid os apart.1) any
 
-pub can_lower : (t : CaseCounts) (places : List LastCall) (pid : Pid) (os : List Pid) → IsCountOf t (calls_of places os)
-    → AreApart (pids os) → list_any (λ o. o.0 == pid.0) os ≡ true → CanLower t (cases_of places pid)
+pub can_lower : (t : CaseCounts) (places : List LastCall) (pid : Pid) (os : List ℕ) → IsCountOf t (calls_of places os)
+    → AreApart os → list_any (λ o. o == pid.0) os ≡ true → CanLower t (cases_of places pid.0)
 can_lower t places pid os k apart any =
-    all_allow one_less (λ n. 0 < n) Covering (λ n x r. omega arith) (λ n x r. omega arith) t (cases_of places pid) (record {
+    all_allow one_less (λ n. 0 < n) Covering (λ n x r. omega arith) (λ n x r. omega arith) t (cases_of places pid.0) (record {
       sends = λ p within. rw (k.sends p (omega (arith, k.sends_length))) (omega (arith, all_passing-ended (is_send_on p) places pid os apart any));
       recvs = λ p within. rw (k.recvs p (omega (arith, k.recvs_length))) (omega (arith, all_passing-ended (is_recv_on p) places pid os apart any));
     })
 
-lowered_counts : (half : CaseCounts → List ℕ) (test : Port → Case → Bool) (t : CaseCounts) (places : List LastCall) (pid : Pid) (os : List Pid)
-    → IsHalf one_less half test → length (half t) ≡ MOST_PORTS + 1 → AreApart (pids os) → list_any (λ o. o.0 == pid.0) os ≡ true
-    → CountsCases test (half t) (calls_of places os) → CountsCases test (half (with_lowered t (cases_of places pid))) (calls_of places (others pid os))
+lowered_counts : (half : CaseCounts → List ℕ) (test : Port → Case → Bool) (t : CaseCounts) (places : List LastCall) (pid : Pid) (os : List ℕ)
+    → IsHalf one_less half test → length (half t) ≡ MOST_PORTS + 1 → AreApart os → list_any (λ o. o == pid.0) os ≡ true
+    → CountsCases test (half t) (calls_of places os) → CountsCases test (half (with_lowered t (cases_of places pid.0))) (calls_of places (others pid os))
 lowered_counts half test t places pid os h long apart any k = λ p within.
     let inside : p.0 < length (half t) = omega (arith, long) in
-    all_changed_at one_less half test h t (cases_of places pid) p inside
-    ∙ iterate-less (passing (test p) (cases_of places pid)) (slice_index (half t) p.0)
-    ∙ ap (λ n. n - passing (test p) (cases_of places pid)) (k p within)
+    all_changed_at one_less half test h t (cases_of places pid.0) p inside
+    ∙ iterate-less (passing (test p) (cases_of places pid.0)) (slice_index (half t) p.0)
+    ∙ ap (λ n. n - passing (test p) (cases_of places pid.0)) (k p within)
     ∙ omega (arith, all_passing-ended (test p) places pid os apart any)
 
-pub counts_ended : (t : CaseCounts) (places : List LastCall) (pid : Pid) (os : List Pid)
-    → AreApart (pids os) → list_any (λ o. o.0 == pid.0) os ≡ true → IsCountOf t (calls_of places os)
-    → IsCountOf (with_lowered t (cases_of places pid)) (calls_of places (others pid os))
+pub counts_ended : (t : CaseCounts) (places : List LastCall) (pid : Pid) (os : List ℕ)
+    → AreApart os → list_any (λ o. o == pid.0) os ≡ true → IsCountOf t (calls_of places os)
+    → IsCountOf (with_lowered t (cases_of places pid.0)) (calls_of places (others pid os))
 counts_ended t places pid os apart any k = record {
   sends = lowered_counts sends_of is_send_on t places pid os (sends_half one_less) k.sends_length apart any k.sends;
   recvs = lowered_counts recvs_of is_recv_on t places pid os (recvs_half one_less) k.recvs_length apart any k.recvs;
-  sends_length = length-all_changed one_less sends_of is_send_on (sends_half one_less) t (cases_of places pid) ∙ k.sends_length;
-  recvs_length = length-all_changed one_less recvs_of is_recv_on (recvs_half one_less) t (cases_of places pid) ∙ k.recvs_length;
+  sends_length = length-all_changed one_less sends_of is_send_on (sends_half one_less) t (cases_of places pid.0) ∙ k.sends_length;
+  recvs_length = length-all_changed one_less recvs_of is_recv_on (recvs_half one_less) t (cases_of places pid.0) ∙ k.recvs_length;
 }
 
 suc_is_some : (n : ℕ) → not (suc n == 0) ≡ true

@@ -11,73 +11,73 @@ use Rattle.hub_base.specs.declared.case.Case.{Case}
 use Rattle.hub_parts.specs.declared.tickets.LastCall.{LastCall}
 use Rattle.hub_parts.specs.declared.tickets.TheConstants.{PIDS}
 use Rattle.hub_parts.specs.Records.{Ticketed}
-use Rattle.hub_parts.specs.Tickets.{IsMarked, calls_of, call_of, cases_of, last_of, pids}
+use Rattle.hub_parts.specs.Tickets.{IsMarked, calls_of, call_of, cases_of, last_of}
 use Rattle.hub_parts.specs.Lists.{still_open, ticketed}
 use Rattle.hub_parts.specs.Queues.{case_at, pid_at, has_call}
 
-pub open_calls_of : (places : List LastCall) (os : List Pid) (pid : Pid)
-    → list_any (λ w. w.call.pid.0 == pid.0) (calls_of places os) ≡ list_any (λ o. o.0 == pid.0) os
+pub open_calls_of : (places : List LastCall) (os : List ℕ) (pid : Pid)
+    → list_any (λ w. w.call.pid.0 == pid.0) (calls_of places os) ≡ list_any (λ o. o == pid.0) os
 open_calls_of places [] pid = refl
-open_calls_of places (o ∷ os) pid = ap (λ b. (o.0 == pid.0) || b) (open_calls_of places os pid)
+open_calls_of places (o ∷ os) pid = ap (λ b. (o == pid.0) || b) (open_calls_of places os pid)
 
 -- the case of this number in the place of the process
 abbrev pub case_in : List LastCall → ℕ → Option Pid → Option Case
 case_in places index None = None
-case_in places index (Some pid) = slice_get (cases_of places pid) index
+case_in places index (Some pid) = slice_get (cases_of places pid.0) index
 
-pub case_told : (places : List LastCall) (os : List Pid) (ticket index : ℕ)
+pub case_told : (places : List LastCall) (os : List ℕ) (ticket index : ℕ)
     → case_at (calls_of places os) ticket index ≡ case_in places index (pid_at (calls_of places os) ticket)
 case_told places [] ticket index = refl
 case_told places (o ∷ os) ticket index =
     elim ((last_of places o).ticket == ticket) as (λ b. cond b (slice_get (cases_of places o) index) (case_at (calls_of places os) ticket index)
-    ≡ case_in places index (cond b (Some o) (pid_at (calls_of places os) ticket)))
+    ≡ case_in places index (cond b (Some (record { 0 = o })) (pid_at (calls_of places os) ticket)))
     [ true ↦ refl | false ↦ case_told places os ticket index ]
 
 abbrev pub IsBelow : ℕ → Option Pid → Type 0
 IsBelow n None = Unit {0}
 IsBelow n (Some pid) = pid.0 < n
 
-pub told_below : (places : List LastCall) (os : List Pid) (n ticket : ℕ) → AllByRecursion (λ q. q < n) (pids os)
+pub told_below : (places : List LastCall) (os : List ℕ) (n ticket : ℕ) → AllByRecursion (λ q. q < n) os
     → IsBelow n (pid_at (calls_of places os) ticket)
 told_below places [] n ticket a = tt
-told_below places (o ∷ os) n ticket a = elim ((last_of places o).ticket == ticket) as (λ b. IsBelow n (cond b (Some o) (pid_at (calls_of places os) ticket))) [
+told_below places (o ∷ os) n ticket a = elim ((last_of places o).ticket == ticket) as (λ b. IsBelow n (cond b (Some (record { 0 = o })) (pid_at (calls_of places os) ticket))) [
   | true ↦ a.0
   | false ↦ told_below places os n ticket a.1
 ]
 
-pub calls_of-filter : (places : List LastCall) (pid : Pid) (os : List Pid)
-    → calls_of places (filter (λ o. not (o.0 == pid.0)) os) ≡ still_open pid (calls_of places os)
+pub calls_of-filter : (places : List LastCall) (pid : Pid) (os : List ℕ)
+    → calls_of places (filter (λ o. not (o == pid.0)) os) ≡ still_open pid (calls_of places os)
 calls_of-filter places pid [] = refl
 calls_of-filter places pid (o ∷ os) = grind (arith, common_steps, calls_of-filter places pid os)
 
-last_of-other : (places : List LastCall) (pid q : Pid) (last : LastCall) → q.0 ≢ pid.0 → last_of (set places pid.0 last) q ≡ last_of places q
-last_of-other places pid q last ne = get_or-set_other places pid.0 q.0 last (record { ticket = 0; cases = record { items = [] } }) ne
+last_of-other : (places : List LastCall) (pid q : ℕ) (last : LastCall) → q ≢ pid → last_of (set places pid last) q ≡ last_of places q
+last_of-other places pid q last ne = get_or-set_other places pid q last (record { ticket = 0; cases = record { items = [] } }) ne
 
-last_of-same : (places : List LastCall) (pid : Pid) (last : LastCall) → pid.0 < length places → last_of (set places pid.0 last) pid ≡ last
-last_of-same places pid last within = get_or-set_same places pid.0 last (record { ticket = 0; cases = record { items = [] } }) within
+last_of-same : (places : List LastCall) (pid : ℕ) (last : LastCall) → pid < length places → last_of (set places pid last) pid ≡ last
+last_of-same places pid last within = get_or-set_same places pid last (record { ticket = 0; cases = record { items = [] } }) within
 
 -- the place of a process without an open call is no call's
-calls_of-set : (places : List LastCall) (os : List Pid) (pid : Pid) (last : LastCall) → list_any (λ o. o.0 == pid.0) os ≡ false
+calls_of-set : (places : List LastCall) (os : List ℕ) (pid : Pid) (last : LastCall) → list_any (λ o. o == pid.0) os ≡ false
     → calls_of (set places pid.0 last) os ≡ calls_of places os
 calls_of-set places [] pid last free = refl
 calls_of-set places (o ∷ os) pid last free =
-    let apart : (o.0 == pid.0) ≡ false = grind (arith, common_steps) in
-    let rest : list_any (λ o. o.0 == pid.0) os ≡ false = grind (arith, common_steps) in
-    ap (λ (l : LastCall). record { ticket = l.ticket; call = record { pid = o; cases = l.cases.items } } ∷ calls_of (set places pid.0 last) os)
-    (last_of-other places pid o last (eqb-false o.0 pid.0 apart))
+    let apart : (o == pid.0) ≡ false = grind (arith, common_steps) in
+    let rest : list_any (λ o. o == pid.0) os ≡ false = grind (arith, common_steps) in
+    ap (λ (l : LastCall). record { ticket = l.ticket; call = record { pid = record { 0 = o }; cases = l.cases.items } } ∷ calls_of (set places pid.0 last) os)
+    (last_of-other places pid.0 o last (eqb-false o pid.0 apart))
     ∙ ap (λ calls. call_of places o ∷ calls) (calls_of-set places os pid last rest)
 
-pub calls_opened_of : (places : List LastCall) (os : List Pid) (pid : Pid) (last : LastCall)
-    → list_any (λ o. o.0 == pid.0) os ≡ false → pid.0 < length places
-    → calls_of (set places pid.0 last) (os ++ pid ∷ []) ≡ calls_of places os ++ ticketed pid last.ticket last.cases.items ∷ []
+pub calls_opened_of : (places : List LastCall) (os : List ℕ) (pid : Pid) (last : LastCall)
+    → list_any (λ o. o == pid.0) os ≡ false → pid.0 < length places
+    → calls_of (set places pid.0 last) (os ++ pid.0 ∷ []) ≡ calls_of places os ++ ticketed pid last.ticket last.cases.items ∷ []
 calls_opened_of places os pid last free within =
-    map-append (call_of (set places pid.0 last)) os (pid ∷ [])
+    map-append (call_of (set places pid.0 last)) os (pid.0 ∷ [])
     ∙ rw (calls_of-set places os pid last free)
-    (ap (λ (l : LastCall). calls_of places os ++ ticketed pid l.ticket l.cases.items ∷ []) (last_of-same places pid last within))
+    (ap (λ (l : LastCall). calls_of places os ++ ticketed pid l.ticket l.cases.items ∷ []) (last_of-same places pid.0 last within))
 
 -- what the code reads in the place of a process
-pub place_read : (places : List LastCall) (pid : Pid) (v : LastCall) → v ≡ get_or places pid.0 v → pid.0 < length places → v ≡ last_of places pid
-place_read places pid v e within = e ∙ get_or_default places pid.0 v (record { ticket = 0; cases = record { items = [] } }) within
+pub place_read : (places : List LastCall) (pid : ℕ) (v : LastCall) → v ≡ get_or places pid v → pid < length places → v ≡ last_of places pid
+place_read places pid v e within = e ∙ get_or_default places pid v (record { ticket = 0; cases = record { items = [] } }) within
 
 pub none_to_end : (pid : Pid) (ws : List Ticketed) → list_any (λ w. w.call.pid.0 == pid.0) ws ≡ false → still_open pid ws ≡ ws
 none_to_end pid [] free = refl
@@ -96,70 +96,70 @@ nothing_before true c = refl
 nothing_before false c = refl
 
 -- an entry lives where its process has an open call, whose ticket is the entry's
-live_step : (places : List LastCall) (o pid : Pid) (os : List Pid) (ticket : ℕ) (b : Bool) → (o.0 == pid.0) ≡ b
-    → has_call (calls_of places os) ticket pid ≡ (list_any (λ o. o.0 == pid.0) os && ((last_of places pid).ticket == ticket))
-    → has_call (calls_of places (o ∷ os)) ticket pid ≡ (list_any (λ o. o.0 == pid.0) (o ∷ os) && ((last_of places pid).ticket == ticket))
+live_step : (places : List LastCall) (o : ℕ) (pid : Pid) (os : List ℕ) (ticket : ℕ) (b : Bool) → (o == pid.0) ≡ b
+    → has_call (calls_of places os) ticket pid ≡ (list_any (λ o. o == pid.0) os && ((last_of places pid.0).ticket == ticket))
+    → has_call (calls_of places (o ∷ os)) ticket pid ≡ (list_any (λ o. o == pid.0) (o ∷ os) && ((last_of places pid.0).ticket == ticket))
 live_step places o pid os ticket true e ih =
-    let same : o.0 ≡ pid.0 = grind (arith, nat_tests) in
-    let last : last_of places o ≡ last_of places pid = ap (λ n. get_or places n (record { ticket = 0; cases = record { items = [] } })) same in
-    rw (e, ih, last) (with_itself ((last_of places pid).ticket == ticket) (list_any (λ o. o.0 == pid.0) os))
+    let same : o ≡ pid.0 = grind (arith, nat_tests) in
+    let last : last_of places o ≡ last_of places pid.0 = ap (λ n. get_or places n (record { ticket = 0; cases = record { items = [] } })) same in
+    rw (e, ih, last) (with_itself ((last_of places pid.0).ticket == ticket) (list_any (λ o. o == pid.0) os))
 live_step places o pid os ticket false e ih = rw (e, ih) (nothing_before ((last_of places o).ticket == ticket) _)
 
-pub lives_at : (places : List LastCall) (os : List Pid) (ticket : ℕ) (pid : Pid)
-    → has_call (calls_of places os) ticket pid ≡ (list_any (λ o. o.0 == pid.0) os && ((last_of places pid).ticket == ticket))
+pub lives_at : (places : List LastCall) (os : List ℕ) (ticket : ℕ) (pid : Pid)
+    → has_call (calls_of places os) ticket pid ≡ (list_any (λ o. o == pid.0) os && ((last_of places pid.0).ticket == ticket))
 lives_at places [] ticket pid = refl
-lives_at places (o ∷ os) ticket pid = live_step places o pid os ticket (o.0 == pid.0) refl (lives_at places os ticket pid)
+lives_at places (o ∷ os) ticket pid = live_step places o pid os ticket (o == pid.0) refl (lives_at places os ticket pid)
 
 both_true : (b : Bool) → true ≡ cond b true true
 both_true true = refl
 both_true false = refl
 
-marked_new : (os : List Pid) (o : Pid) (q : ℕ) (b : Bool) → (o.0 == q) ≡ b
-    → list_any (λ o. o.0 == q) (os ++ o ∷ []) ≡ cond b true (list_any (λ o. o.0 == q) os)
+marked_new : (os : List ℕ) (o : ℕ) (q : ℕ) (b : Bool) → (o == q) ≡ b
+    → list_any (λ o. o == q) (os ++ o ∷ []) ≡ cond b true (list_any (λ o. o == q) os)
 marked_new [] o q true e = rw e refl
 marked_new [] o q false e = rw e refl
 marked_new (v ∷ os) o q b e =
-    elim (v.0 == q) as (λ a. (a || list_any (λ o. o.0 == q) (os ++ o ∷ [])) ≡ cond b true (a || list_any (λ o. o.0 == q) os)) [
+    elim (v == q) as (λ a. (a || list_any (λ o. o == q) (os ++ o ∷ [])) ≡ cond b true (a || list_any (λ o. o == q) os)) [
       | true ↦ both_true b
       | false ↦ marked_new os o q b e
     ]
 
-pub marked_opened : (marks : List Bool) (os : List Pid) (o : Pid) → o.0 < PIDS → IsMarked marks os → IsMarked (set marks o.0 true) (os ++ o ∷ [])
+pub marked_opened : (marks : List Bool) (os : List ℕ) (o : ℕ) → o < PIDS → IsMarked marks os → IsMarked (set marks o true) (os ++ o ∷ [])
 marked_opened marks os o small k = record {
   told = λ q within.
-      elim (cases_eq o.0 q) [
-        | inl same ↦ rw (marked_new os o q true (eq-eqb o.0 q same), same) (get_or-set_same marks q true false (rw k.long within))
-        | inr apart ↦ rw (marked_new os o q false (ne_eqb o.0 q apart), get_or-set_other marks o.0 q true false (λ e. apart (sym e))) (k.told q within)
+      elim (cases_eq o q) [
+        | inl same ↦ rw (marked_new os o q true (eq-eqb o q same), same) (get_or-set_same marks q true false (rw k.long within))
+        | inr apart ↦ rw (marked_new os o q false (ne_eqb o q apart), get_or-set_other marks o q true false (λ e. apart (sym e))) (k.told q within)
       ];
-  long = length-set marks o.0 true ∙ k.long;
+  long = length-set marks o true ∙ k.long;
 }
 
-ended_step : (pid : Pid) (o : Pid) (os : List Pid) (q : ℕ) (b : Bool) → (o.0 == pid.0) ≡ b → (q == pid.0) ≡ false
-    → list_any (λ o. o.0 == q) (filter (λ o. not (o.0 == pid.0)) os) ≡ list_any (λ o. o.0 == q) os
-    → list_any (λ o. o.0 == q) (cond (not b) (o ∷ filter (λ o. not (o.0 == pid.0)) os) (filter (λ o. not (o.0 == pid.0)) os))
-    ≡ list_any (λ o. o.0 == q) (o ∷ os)
+ended_step : (pid : Pid) (o : ℕ) (os : List ℕ) (q : ℕ) (b : Bool) → (o == pid.0) ≡ b → (q == pid.0) ≡ false
+    → list_any (λ o. o == q) (filter (λ o. not (o == pid.0)) os) ≡ list_any (λ o. o == q) os
+    → list_any (λ o. o == q) (cond (not b) (o ∷ filter (λ o. not (o == pid.0)) os) (filter (λ o. not (o == pid.0)) os))
+    ≡ list_any (λ o. o == q) (o ∷ os)
 ended_step pid o os q true e other ih =
-    let not_this : (o.0 == q) ≡ false = grind (arith, nat_tests) in
+    let not_this : (o == q) ≡ false = grind (arith, nat_tests) in
     rw not_this ih
-ended_step pid o os q false e other ih = ap (λ b. (o.0 == q) || b) ih
+ended_step pid o os q false e other ih = ap (λ b. (o == q) || b) ih
 
-marked_others : (pid : Pid) (os : List Pid) (q : ℕ) → (q == pid.0) ≡ false
-    → list_any (λ o. o.0 == q) (filter (λ o. not (o.0 == pid.0)) os) ≡ list_any (λ o. o.0 == q) os
+marked_others : (pid : Pid) (os : List ℕ) (q : ℕ) → (q == pid.0) ≡ false
+    → list_any (λ o. o == q) (filter (λ o. not (o == pid.0)) os) ≡ list_any (λ o. o == q) os
 marked_others pid [] q other = refl
-marked_others pid (o ∷ os) q other = ended_step pid o os q (o.0 == pid.0) refl other (marked_others pid os q other)
+marked_others pid (o ∷ os) q other = ended_step pid o os q (o == pid.0) refl other (marked_others pid os q other)
 
-unmarked_step : (pid : Pid) (o : Pid) (os : List Pid) (b : Bool) → (o.0 == pid.0) ≡ b
-    → list_any (λ o. o.0 == pid.0) (filter (λ o. not (o.0 == pid.0)) os) ≡ false
-    → list_any (λ o. o.0 == pid.0) (cond (not b) (o ∷ filter (λ o. not (o.0 == pid.0)) os) (filter (λ o. not (o.0 == pid.0)) os)) ≡ false
+unmarked_step : (pid : Pid) (o : ℕ) (os : List ℕ) (b : Bool) → (o == pid.0) ≡ b
+    → list_any (λ o. o == pid.0) (filter (λ o. not (o == pid.0)) os) ≡ false
+    → list_any (λ o. o == pid.0) (cond (not b) (o ∷ filter (λ o. not (o == pid.0)) os) (filter (λ o. not (o == pid.0)) os)) ≡ false
 unmarked_step pid o os true e ih = ih
 unmarked_step pid o os false e ih = rw e ih
 
-unmarked : (pid : Pid) (os : List Pid) → list_any (λ o. o.0 == pid.0) (filter (λ o. not (o.0 == pid.0)) os) ≡ false
+unmarked : (pid : Pid) (os : List ℕ) → list_any (λ o. o == pid.0) (filter (λ o. not (o == pid.0)) os) ≡ false
 unmarked pid [] = refl
-unmarked pid (o ∷ os) = unmarked_step pid o os (o.0 == pid.0) refl (unmarked pid os)
+unmarked pid (o ∷ os) = unmarked_step pid o os (o == pid.0) refl (unmarked pid os)
 
-pub marked_ended : (marks : List Bool) (os : List Pid) (pid : Pid) → IsMarked marks os
-    → IsMarked (set marks pid.0 false) (filter (λ o. not (o.0 == pid.0)) os)
+pub marked_ended : (marks : List Bool) (os : List ℕ) (pid : Pid) → IsMarked marks os
+    → IsMarked (set marks pid.0 false) (filter (λ o. not (o == pid.0)) os)
 marked_ended marks os pid k = record {
   told = λ q within.
       elim (cases_eq q pid.0) [
@@ -173,13 +173,13 @@ pub none_marked : IsMarked (replicate PIDS false) []
 none_marked = record { told = λ q within. get_or-replicate PIDS q false false within; long = length-replicate PIDS false }
 
 -- the call at this place
-pub placed_below : (os : List Pid) (n i : ℕ) (o : Pid) → AllByRecursion (λ q. q < n) (pids os) → slice_get os i ≡ Some o → o.0 < n
+pub placed_below : (os : List ℕ) (n i : ℕ) (o : ℕ) → AllByRecursion (λ q. q < n) os → slice_get os i ≡ Some o → o < n
 placed_below [] n i o a e = absurd (let g : ⊥ = cc in g)
 placed_below (x ∷ os) n zero o a e =
-    let same : x.0 ≡ o.0 = ap (λ (y : Pid). y.0) (let s : x ≡ o = cc in s) in let h = a.0 in omega arith
+    let same : x ≡ o = cc in let h = a.0 in omega (arith, same)
 placed_below (x ∷ os) n (suc i) o a e = placed_below os n i o a.1 e
 
-pub placed_call : (places : List LastCall) (os : List Pid) (i : ℕ) (o : Pid) → slice_get os i ≡ Some o
+pub placed_call : (places : List LastCall) (os : List ℕ) (i : ℕ) (o : ℕ) → slice_get os i ≡ Some o
     → slice_get (calls_of places os) i ≡ Some (call_of places o)
 placed_call places [] i o e = absurd (let g : ⊥ = cc in g)
 placed_call places (x ∷ os) zero o e = ap (λ y. Some (call_of places y)) (let s : x ≡ o = cc in s)

@@ -20,6 +20,6 @@ returns c =
     let below = placed_below c.self.inside.opened.items c.self.inside.procs c.args.place c.in-Some.pid c.self.invariant.below e in
     let read = place_read c.self.inside.calls.items c.in-Some.pid c.index.result.now c.index.ensures (omega (arith, c.self.invariant.places)) in
     rw (← c.self.view_is)
-    (ap (λ cs. Some (shown_call (c.in-Some.pid, cs))) c.copy_cases.ensures
-    ∙ ap (λ (last : LastCall). Some (record { pid = c.in-Some.pid; cases = last.cases.items })) read
+    (ap (λ cs. Some (shown_call (record { 0 = c.in-Some.pid }, cs))) c.copy_cases.ensures
+    ∙ ap (λ (last : LastCall). Some (record { pid = record { 0 = c.in-Some.pid }; cases = last.cases.items })) read
     ∙ sym (ap (option_map (λ (w : Ticketed). w.call)) (placed_call c.self.inside.calls.items c.self.inside.opened.items c.args.place c.in-Some.pid e)))

@@ -20,6 +20,6 @@ returns c =
     rw (← c.self.view_is)
     (c.case_of.ensures
     ∙ ap (λ (l : LastCall). slice_get l.cases.items c.args.waiter.case)
-    (place_read c.self.inside.calls.items c.args.waiter.pid c.index.result.now c.index.ensures (omega (arith, c.self.invariant.places)))
+    (place_read c.self.inside.calls.items c.args.waiter.pid.0 c.index.result.now c.index.ensures (omega (arith, c.self.invariant.places)))
     ∙ ap (case_in c.self.inside.calls.items c.args.waiter.case) (sym owner)
     ∙ sym (case_told c.self.inside.calls.items c.self.inside.opened.items c.args.waiter.ticket c.args.waiter.case))

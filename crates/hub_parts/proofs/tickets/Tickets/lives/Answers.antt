@@ -10,7 +10,7 @@ returns-then-is_open c =
     sym (open_calls_of c.self.inside.calls.items c.self.inside.opened.items c.args.waiter.pid) ∙ sym (rw (← c.self.view_is) at c.if-is_open.ensures) in
     rw (← c.self.view_is, lives_at c.self.inside.calls.items c.self.inside.opened.items c.args.waiter.ticket c.args.waiter.pid, any)
     (ap (λ n. n == c.args.waiter.ticket)
-    (c.ticket_of.ensures ∙ ap (λ (calls : List LastCall). (last_of calls c.args.waiter.pid).ticket) c.as_slice.ensures.value))
+    (c.ticket_of.ensures ∙ ap (λ (calls : List LastCall). (last_of calls c.args.waiter.pid.0).ticket) c.as_slice.ensures.value))
 
 pub returns-else-is_open : goal.returns-else-is_open
 returns-else-is_open c =

@@ -24,7 +24,7 @@ pub enum Step<C = Cases> {
     },
     /// Closes a port. Go: "Close".
     Close(Port),
-    /// Ends the process: no later step of it is admitted.
+    /// Ends the process: no later step of it is admitted until it is started again.
     Exit,
     /// Ends the open call of this process with `What::Cancelled`. No value moves, and no port changes. No
     /// journal of the first edition has it. Without an open call the answer is `Fault::NotParked`.
@@ -33,7 +33,8 @@ pub enum Step<C = Cases> {
     /// third edition has it. Where the process has not exited the answer is `Fault::NotGone`.
     Start(Pid),
     /// Opens this port again, which is closed and drained. What was sent and received on it still counts. Only a
-    /// journal of the third edition has it. Where the port is open or holds a value the answer is `Fault::InUse`.
+    /// journal of the third edition has it. Where the port is open or holds a value the answer is `Fault::InUse`, and
+    /// `Fault::NilClose` for port 0.
     Reopen {
         /// The port.
         port: Port,

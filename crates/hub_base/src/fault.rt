@@ -28,7 +28,8 @@ pub enum Fault {
     BadCap,
     /// 7: `MOST_PORTS` ports are made already.
     TooManyPorts,
-    /// 8: a close or a reopen of port 0. Go: a close of the nil channel panics ("Close").
+    /// 8: a close of port 0, the nil port, or a reopen of it, which has the same text. Go: a close of the nil channel
+    /// panics ("Close").
     NilClose,
     /// 9: a close of a closed port. Go: it panics ("Close").
     AlreadyClosed,

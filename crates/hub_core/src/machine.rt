@@ -24,6 +24,7 @@ use hub_base::{
     Cases, EntryRef, Events, Fault, Head, Hears, Look, NoMemory, Pid, Port, Value, What,
 };
 use hub_parts::Board;
+use hub_text::EntryPlace;
 use std::alloc::Global;
 use std::marker::Model;
 
@@ -163,33 +164,34 @@ impl Machine {
         }
     }
 
-    /// As `answer`, to whoever hears the events behind those that it has heard before; there must be room for those
-    /// of any step. Where memory is refused nothing is told.
+    /// As `answer`, of the entry in a place, to whoever hears the events behind those that it has heard before; there must
+    /// be room for those of any step. Where memory is refused nothing is told.
     #[inline(always)]
     pub fn step_into<E: Hears>(
         &mut self,
-        entry: &hub_base::Entry,
+        place: &EntryPlace,
         events: &mut E,
     ) -> Result<(), NoMemory>
         requires steps { self.old.steps < 2 ^ 32 - 1 }
         requires room { MOST_EVENTS ≤ E.room events.old }
 
         ensures ok { OnOk result ((h : Head) (es : List Entry) → Follows h es self.old
-            → Tells h es entry.now self.new (E.heard events.old) events.new) }
+            → Tells h es place.now self.new (E.heard events.old) events.new) }
         ensures steps { OnOk result (self.new.steps ≤ self.old.steps + 1) }
 
-        ensures make { OnErr result (TakesMemory entry.now.step) }
+        ensures make { OnErr result (TakesMemory place.now.step) }
         ensures fine { OnErr result ((h : Head) (es : List Entry) → Follows h es self.old
-            → IsFine (state h es) entry.now) }
+            → IsFine (state h es) place.now) }
         ensures unchanged { OnErr result (self.new ≡ self.old) }
         ensures silent { OnErr result (events.new ≡ events.old) }
     {
-        if let Some(fault) = self.refusal(entry.pid) {
-            events.hear(tells(entry.pid, What::Fault(fault)));
+        let pid = place.pid();
+        if let Some(fault) = self.refusal(pid) {
+            events.hear(tells(pid, What::Fault(fault)));
             return Ok(());
         }
         // Only now, so that the compiler asks once which step it is.
-        self.step_admitted(&entry.by_slice(), events)
+        self.step_admitted(&place.entry(), events)
     }
 
     /// Makes an admitted step, and tells what follows. After a refusal nothing is told, and the machine is as

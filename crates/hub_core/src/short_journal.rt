@@ -11,8 +11,8 @@ ghost use Rattle.hub_text.specs.ReadJournal.{Gives, IsFaultOf};
 ghost use Rattle.hub_text.specs.Writing.{HasRoomFor};
 
 use crate::{CaseRoom, ShortEntries};
-use hub_base::{Edition, Entry, Head, Journal, NoMemory, ReadFault};
-use hub_text::{Reader, write_entry, write_head};
+use hub_base::{Edition, Head, Journal, NoMemory, ReadFault};
+use hub_text::{EntryPlace, Reader, write_entry, write_head};
 use std::alloc::Global;
 use std::marker::Model;
 
@@ -70,11 +70,11 @@ fn collect_entries(alloc: Global, mut reader: Reader) -> Result<ShortJournal, Re
     ensures memory { IsErrOf result ReadFault.NoMemory → HasEntry reader.entry.left }
 {
     let mut list = ShortEntries::new(alloc);
-    let mut entry = Entry::blank();
+    let mut place = EntryPlace::new();
     loop {
-        match reader.read_into(&mut entry) {
+        match reader.read_into(&mut place) {
             Ok(true) => {
-                if list.push(&entry.by_slice()).is_err() {
+                if list.push(&place.entry()).is_err() {
                     return Err(ReadFault::NoMemory);
                 }
             }

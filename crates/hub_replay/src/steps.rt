@@ -10,9 +10,9 @@ ghost use Rattle.hub_replay.specs.Replay.{HasNone};
 ghost use Rattle.hub_replay.specs.Replayed.{Replayed, GoesOn};
 
 use crate::ReplayFault;
-use hub_base::{Entry, MOST_BYTES};
+use hub_base::MOST_BYTES;
 use hub_core::Machine;
-use hub_text::{EventText, Reader, one_reading};
+use hub_text::{EntryPlace, EventText, Reader, one_reading};
 use std::alloc::Global;
 
 /// The bytes that decide what a text says: of a text of too many bytes the first that is one too many
@@ -30,15 +30,15 @@ fn deciding(bytes: &[u8]) -> &[u8]
 
 /// A journal that is being read, and the machine that makes its steps.
 ///
-/// The machine stands where the entries before led. One entry is read into again and again, since it is large.
+/// The machine stands where the entries before led. All are read into one place.
 #[derive(Drop)]
 pub struct Steps<'a> {
     /// What is left of the journal.
     reader: Reader<'a>,
     /// What the entries so far have led to.
     machine: Machine,
-    /// The last of them.
-    entry: Entry,
+    /// Where the last of them stands.
+    place: EntryPlace,
     ghost room: { machine.steps + reader.bytes < 2 ^ 32 - 1 },
 }
 
@@ -55,7 +55,7 @@ impl<'a> Steps<'a> {
         Ok(Steps {
             reader,
             machine,
-            entry: Entry::blank(),
+            place: EntryPlace::new(),
         })
     }
 
@@ -72,11 +72,11 @@ impl<'a> Steps<'a> {
     {
         // Its clauses say of which journal the reader's answers speak.
         one_reading();
-        if !self.reader.read_into(&mut self.entry)? {
+        if !self.reader.read_into(&mut self.place)? {
             return Ok(false);
         }
         lines.make_step_room()?;
-        self.machine.step_into(&self.entry, lines)?;
+        self.machine.step_into(&self.place, lines)?;
         Ok(true)
     }
 

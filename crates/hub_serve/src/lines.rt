@@ -14,7 +14,7 @@ ghost use Rattle.hub_replay.specs.Verify.{newlines_in};
 ghost use Rattle.hub_serve.specs.Lines.{IsCut, IsLine, IsSecond, IsEntryLine, Says, first_line, says_one};
 
 use hub_base::{Head, Kind};
-use hub_text::Reader;
+use hub_text::{EntryPlace, Reader};
 use memchr::memchr;
 
 /// The first line with its newline, and what stands behind it; `None` where there is no newline.
@@ -62,14 +62,14 @@ pub(crate) fn read_second(text: &[u8]) -> Result<Head, Kind>
     }
 }
 
-/// Reads what is left of a text, each entry into the place of this one.
-fn read_out(mut reader: Reader, entry: &mut hub_base::Entry) -> Result<(), Kind>
+/// Reads what is left of a text, each entry into this place.
+fn read_out(mut reader: Reader, place: &mut EntryPlace) -> Result<(), Kind>
     ensures ok { OnOk result ((head : Head) × (more : List Entry)
         × (reader.entry.left ≡ Reads head more)) }
     ensures err { IfErr result (λ kind. (k : ℕ) × (reader.entry.left ≡ Faulty k kind)) }
 {
     'entries: loop {
-        match reader.read_into(entry) {
+        match reader.read_into(place) {
             Ok(true) => {}
             Ok(false) => return Ok(()),
             Err(fault) => return Err(fault.kind),
@@ -77,18 +77,14 @@ fn read_out(mut reader: Reader, entry: &mut hub_base::Entry) -> Result<(), Kind>
     }
 }
 
-/// Reads the one entry that is left of a text; an `Err` is the fault of its line. The other entry may then be
-/// any.
-fn read_one(
-    mut reader: Reader,
-    entry: &mut hub_base::Entry,
-    other: &mut hub_base::Entry,
-) -> Result<(), Kind>
+/// Reads the one entry that is left of a text; an `Err` is the fault of its line. In the other place any entry may then
+/// stand.
+fn read_one(mut reader: Reader, place: &mut EntryPlace, other: &mut EntryPlace) -> Result<(), Kind>
     ensures { (head : Head) (body : List ℕ)
         → reader.entry.left ≡ says_one head (read_fields head.edition (pieces 32 body))
-        → Says head.edition body entry.new result }
+        → Says head.edition body place.new result }
 {
-    match reader.read_into(entry) {
+    match reader.read_into(place) {
         Ok(true) => read_out(reader, other),
         // There is a line, so this does not come.
         Ok(false) => Err(Kind::BadStep),
@@ -96,19 +92,19 @@ fn read_one(
     }
 }
 
-/// Reads the line behind both head lines into the entry; an `Err` is what is wrong with the line itself.
-/// The other entry may then be any.
+/// Reads the line behind both head lines into the place; an `Err` is what is wrong with the line itself.
+/// In the other place any entry may then stand.
 pub(crate) fn read_entry(
     text: &[u8],
-    entry: &mut hub_base::Entry,
-    other: &mut hub_base::Entry,
+    place: &mut EntryPlace,
+    other: &mut EntryPlace,
 ) -> Result<(), Kind>
     requires fits { length text.now ≤ MOST_BYTES }
     ensures { (head : Head) (line body : List ℕ) → IsEntryLine text.now head line body
-        → Says head.edition body entry.new result }
+        → Says head.edition body place.new result }
 {
     match Reader::open(text) {
-        Ok(reader) => read_one(reader, entry, other),
+        Ok(reader) => read_one(reader, place, other),
         Err(fault) => Err(fault.kind),
     }
 }

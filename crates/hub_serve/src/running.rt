@@ -11,28 +11,27 @@ ghost use Rattle.hub_serve.specs.Running.{Goes, RunsTo, steps_after};
 use crate::lines::read_entry;
 use hub_base::{Head, Kind, MOST_STEPS, NoMemory};
 use hub_core::Machine;
-use hub_text::EventText;
+use hub_text::{EntryPlace, EventText};
 use std::alloc::Global;
 
-/// A machine that stands where the entries so far have led. An entry takes 648 bytes, so each is read into
-/// the same place.
+/// A machine that stands where the entries so far have led. Each entry is read into the same place.
 #[derive(Drop)]
 pub(crate) struct Running {
     /// What the entries have led to.
     machine: Machine,
     /// How many of them are no exits.
     steps: u32,
-    /// The last of them.
-    entry: hub_base::Entry,
+    /// Where the last of them stands.
+    place: EntryPlace,
     /// A place for what is read behind it, where that is looked for.
-    other: hub_base::Entry,
+    other: EntryPlace,
 }
 
 /// How many entries are no exits with this one; `None` where it is one too many.
-fn steps_after(entry: &hub_base::Entry, steps: u32) -> Option<u32>
-    ensures { result ≡ steps_after steps entry.now }
+fn steps_after(place: &EntryPlace, steps: u32) -> Option<u32>
+    ensures { result ≡ steps_after steps place.now }
 {
-    if entry.step.by_slice().is_exit() {
+    if place.is_exit() {
         Some(steps)
     } else if steps >= MOST_STEPS {
         None
@@ -50,8 +49,8 @@ impl Running {
         Ok(Running {
             machine: Machine::new(alloc, head)?,
             steps: 0,
-            entry: hub_base::Entry::blank(),
-            other: hub_base::Entry::blank(),
+            place: EntryPlace::new(),
+            other: EntryPlace::new(),
         })
     }
 
@@ -70,14 +69,14 @@ impl Running {
             → Goes head entries body self.new.machine self.new.steps answers.old.lines answers.new.lines fault) }
         ensures steps { self.new.machine.steps ≤ self.old.machine.steps + 1 }
     {
-        if let Err(kind) = read_entry(text, &mut self.entry, &mut self.other) {
+        if let Err(kind) = read_entry(text, &mut self.place, &mut self.other) {
             return Ok(Some(kind));
         }
-        let Some(steps) = steps_after(&self.entry, self.steps) else {
+        let Some(steps) = steps_after(&self.place, self.steps) else {
             return Ok(Some(Kind::TooLong));
         };
         answers.make_step_room()?;
-        self.machine.step_into(&self.entry, answers)?;
+        self.machine.step_into(&self.place, answers)?;
         self.steps = steps;
         Ok(None)
     }

@@ -38,7 +38,7 @@ use Rattle.hub_base.proofs.Values.{content-saying, is-value}
 use Rattle.hub_text.specs.Writing.{spaced, spaced_cases}
 use Rattle.hub_base.specs.Lines.{line, step_fields, case_field, call, call_fields, select_fields, default_field, spelled, is_hex}
 use Rattle.hub_text.specs.Quick.{EndsLine, Stands, GoesOn, ValueStands, SendStands, RecvStands, CaseStands, CasesStand}
-use Rattle.hub_text.specs.Quick.{SelectStands, NumberStands, StepStands, Begins, BeginsExit}
+use Rattle.hub_text.specs.Quick.{SelectStands, NumberStands, ReopenStands, StepStands, Begins, BeginsExit}
 use Rattle.hub_base.specs.Reading.{Reading, Reads, Faulty, behind, is_exit, with_entry, entries_from, rows}
 use Rattle.hub_base.specs.Text.{CaseFits, StepFits, Fits, body, steps_of}
 use Rattle.hub_text.proofs.Bodies.{rows-entry}
@@ -395,6 +395,20 @@ pub number-stands : (ed : Edition) (bs : List ℕ) (start at : ℕ) (word : List
 number-stands ed bs start at word step end spelled so =
     let whole : spaced (step_fields step) ≡ codes " " ++ word ++ codes " " ++ decimal so.number =
     ap spaced so.is ∙ simp (append_assoc, append-nil) in
+    record {
+      stands = subst (λ text. Stands bs start text end) (sym whole) (stands-then spelled so.stands);
+      fits = so.fits;
+      of_edition = so.of_edition;
+      no_exit = so.no_exit;
+    }
+
+-- the word of a reopen and what stands behind it are its step
+pub reopen-stands : (ed : Edition) (bs : List ℕ) (start at : ℕ) (step : Step) (end : ℕ) → Stands bs start (codes " reopen ") at
+    → ReopenStands ed bs at step end → StepStands ed bs start step end
+reopen-stands ed bs start at step end spelled so =
+    let whole : spaced (step_fields step) ≡ codes " reopen " ++ (decimal so.port ++ codes " " ++ decimal so.cap) =
+    ap spaced so.is ∙ ap (λ cap. codes " reopen " ++ (decimal so.port ++ (codes " " ++ cap))) (append-nil (decimal so.cap))
+    ∙ ap (λ text. codes " reopen " ++ text) (sym (append_assoc (decimal so.port) (codes " ") (decimal so.cap))) in
     record {
       stands = subst (λ text. Stands bs start text end) (sym whole) (stands-then spelled so.stands);
       fits = so.fits;

@@ -2,6 +2,7 @@ pub mod Fields
 pub mod Writing
 pub mod ReadJournal
 pub mod Filling
+pub mod Place
 pub mod Reader
 pub mod ReaderKeeps
 pub mod Quick

@@ -1,5 +1,5 @@
 -- What the quick reading of a line finds: a spelling between two places of the bytes.
-use Rattle.std.specs.Prelude.{◌≡◌, ◌≢◌, ◌≤◌, ◌<◌, ◌+◌, ℕ, List, [], ◌∷◌, ◌++◌, decimal, length, drop, get_or, Bool, true, false, Ok}
+use Rattle.std.specs.Prelude.{◌≡◌, ◌≢◌, ◌≤◌, ◌<◌, ◌+◌, ℕ, List, [], ◌∷◌, ◌++◌, codes, decimal, length, drop, get_or, Bool, true, false, Ok}
 use Rattle.std.specs.List.{AllByRecursion, list_all}
 use Rattle.hub_base.specs.declared.case.Case.{Case}
 use Rattle.hub_base.specs.declared.case.Case.TheVariants.{Send, Recv}
@@ -81,6 +81,16 @@ pub record NumberStands (edition : Edition) (bytes : List ℕ) (start : ℕ) (wo
   pub number : ℕ
   pub is : step_fields step ≡ word ∷ decimal number ∷ []
   pub stands : Stands bytes start (decimal number) end
+  pub fits : StepFits step
+  pub of_edition : is_of edition step ≡ true
+  pub no_exit : is_exit step ≡ false
+
+-- the port and the capacity of a reopen stand there, which are the last of its fields
+pub record ReopenStands (edition : Edition) (bytes : List ℕ) (start : ℕ) (step : Step) (end : ℕ) : Type 0 where
+  pub port : ℕ
+  pub cap : ℕ
+  pub is : step_fields step ≡ codes "reopen" ∷ decimal port ∷ decimal cap ∷ []
+  pub stands : Stands bytes start (decimal port ++ codes " " ++ decimal cap) end
   pub fits : StepFits step
   pub of_edition : is_of edition step ≡ true
   pub no_exit : is_exit step ≡ false

@@ -25,6 +25,7 @@ ghost use Rattle.hub_base.specs.declared.read_fault.Kind.{Kind};
 use crate::fields::Fields;
 use crate::lines::line_at;
 use crate::numbers::number;
+use crate::place::EntryPlace;
 use crate::quick::{quick_exit, quick_line};
 use crate::steps::{read_line, same_text};
 use crate::writer::header;
@@ -167,38 +168,35 @@ impl<'a> Reader<'a> {
         self.head.procs
     }
 
-    /// Reads the next entry into the place of this one; `false` at the end of the text. At the end and
-    /// at a fault the reader stays where it is, so that each further call answers the same, and the
-    /// entry may be any.
-    ///
-    /// An entry takes 648 bytes, so a loop over a long text reads them all into one.
+    /// Reads the next entry into this place; `false` at the end of the text. At the end and at a fault the reader stays
+    /// where it is, so that each further call answers the same, and any entry may stand in the place.
     #[inline(always)]
-    pub fn read_into(&mut self, entry: &mut hub_base::Entry) -> Result<bool, TextFault>
-        ensures reads { FillsOn self.old self.new entry.new result }
+    pub fn read_into(&mut self, place: &mut EntryPlace) -> Result<bool, TextFault>
+        ensures reads { FillsOn self.old self.new place.new result }
         ensures some { IfOk result (λ more. OnTrue more (HasEntry self.old.left)) }
     {
         if self.rest.is_empty() {
             return Ok(false);
         }
-        if self.read_quickly(entry) || self.read_exit(entry) {
+        if self.read_quickly(place) || self.read_exit(place) {
             return Ok(true);
         }
-        self.read_slowly(entry)
+        self.read_slowly(place)
     }
 
     /// Reads the next line where it is one that `quick_line` knows, and within the limits. Where it answers
-    /// `false`, the entry may be any.
+    /// `false`, any entry may stand in the place.
     #[inline]
-    fn read_quickly(&mut self, entry: &mut hub_base::Entry) -> bool
+    fn read_quickly(&mut self, place: &mut EntryPlace) -> bool
         requires some { 0 < self.old.bytes }
-        ensures reads { OnTrue result (FillsOn self.old self.new entry.new (Ok true)) }
+        ensures reads { OnTrue result (FillsOn self.old self.new place.new (Ok true)) }
         ensures some { OnTrue result (HasEntry self.old.left) }
         ensures unchanged { OnFalse result (self.new ≡ self.old) }
     {
         if self.steps == MOST_STEPS || self.rest[self.rest.len() - 1] != b'\n' {
             return false;
         }
-        match quick_line(self.head.edition, self.rest, entry) {
+        match quick_line(self.head.edition, self.rest, place) {
             Some(end) if end <= MOST_BYTES - self.place => {
                 self.steps += 1;
                 self.place += end;
@@ -211,18 +209,18 @@ impl<'a> Reader<'a> {
     }
 
     /// Reads the next line where it is an exit that `quick_exit` knows, and within the limits. Where it answers `false`,
-    /// the entry may be any.
+    /// any entry may stand in the place.
     #[inline(never)]
-    fn read_exit(&mut self, entry: &mut hub_base::Entry) -> bool
+    fn read_exit(&mut self, place: &mut EntryPlace) -> bool
         requires some { 0 < self.old.bytes }
-        ensures reads { OnTrue result (FillsOn self.old self.new entry.new (Ok true)) }
+        ensures reads { OnTrue result (FillsOn self.old self.new place.new (Ok true)) }
         ensures some { OnTrue result (HasEntry self.old.left) }
         ensures unchanged { OnFalse result (self.new ≡ self.old) }
     {
         if self.rest[self.rest.len() - 1] != b'\n' {
             return false;
         }
-        let Some(end) = quick_exit(self.rest, entry) else {
+        let Some(end) = quick_exit(self.rest, place) else {
             return false;
         };
         if end > MOST_BYTES - self.place {
@@ -236,9 +234,9 @@ impl<'a> Reader<'a> {
 
     /// Reads any next line: its end is looked for, then its fields, and then their numbers.
     #[inline(never)]
-    fn read_slowly(&mut self, entry: &mut hub_base::Entry) -> Result<bool, TextFault>
+    fn read_slowly(&mut self, place: &mut EntryPlace) -> Result<bool, TextFault>
         requires some { 0 < self.old.bytes }
-        ensures reads { FillsOn self.old self.new entry.new result }
+        ensures reads { FillsOn self.old self.new place.new result }
         ensures some { IfOk result (λ more. OnTrue more (HasEntry self.old.left)) }
     {
         let (text, after) = match line_at(self.rest, self.place) {
@@ -248,14 +246,14 @@ impl<'a> Reader<'a> {
                 kind,
             }),
         };
-        match read_line(self.head.edition, text, entry) {
+        match read_line(self.head.edition, text, place) {
             Ok(()) => {}
             Err(kind) => return Err(TextFault {
                 line: self.line,
                 kind,
             }),
         }
-        if !entry.step.by_slice().is_exit() {
+        if !place.is_exit() {
             if self.steps == MOST_STEPS {
                 return Err(TextFault {
                     line: self.line,
@@ -276,9 +274,9 @@ impl<'a> Reader<'a> {
         ensures reads { ReadsOn self.old self.new result }
         ensures some { IfOk result (λ next. OnSome next (HasEntry self.old.left)) }
     {
-        let mut entry = hub_base::Entry::blank();
-        match self.read_into(&mut entry) {
-            Ok(true) => Ok(Some(entry)),
+        let mut place = EntryPlace::new();
+        match self.read_into(&mut place) {
+            Ok(true) => Ok(Some(place.entry().to_owned())),
             Ok(false) => Ok(None),
             Err(fault) => Err(fault),
         }

@@ -9,8 +9,9 @@ ghost use Rattle.hub_text.specs.Filling.{Fills};
 ghost use Rattle.hub_base.specs.declared.read_fault.Kind.TheVariants.{BadNumber};
 
 use crate::fields::Fields;
+use crate::place::EntryPlace;
 use crate::steps::{Line, numeral, process, recv_of, same_text, send_of};
-use hub_base::{CASE_PLACES, Case, Cases, Edition, Entry, GREATEST_WORD, Kind, Pid, Step};
+use hub_base::{CASE_PLACES, Case, Cases, Edition, GREATEST_WORD, Kind, Pid, Step};
 
 /// What a case field says in a journal of this edition: a fault of its shape, or else a case or a fault of its parts.
 pub fn read_case(edition: Edition, field: &[u8]) -> Result<Result<Case, Kind>, Kind>
@@ -48,9 +49,9 @@ fn choose(
     cases: Cases,
     fine: bool,
     default: bool,
-    entry: &mut Entry,
+    place: &mut EntryPlace,
 ) -> Result<(), Kind>
-    ensures { Fills result entry.new
+    ensures { Fills result place.new
         (choose pid.now word.now (if fine then Ok cases.items else Err BadNumber) default) }
 {
     let pid = process(pid)?;
@@ -61,9 +62,10 @@ fn choose(
     if cases.len() == 1 && !default && word == 0 {
         return Err(Kind::BadStep);
     }
-    entry.pid = Pid(pid);
-    entry.step = Step::Call {
-        cases,
+    place.pid = Pid(pid);
+    place.step.cases = cases;
+    place.step.bare = Step::Call {
+        cases: (),
         default,
         word,
     };
@@ -71,8 +73,8 @@ fn choose(
 }
 
 /// What `P select W CASE.. [default]` says, from the field of the word on.
-pub fn read_select(line: Line, entry: &mut Entry) -> Result<(), Kind>
-    ensures { Fills result entry.new (read_choice line.entry.edition line.entry.pid.now line.entry.fields) }
+pub fn read_select(line: Line, place: &mut EntryPlace) -> Result<(), Kind>
+    ensures { Fills result place.new (read_choice line.entry.edition line.entry.pid.now line.entry.fields) }
 {
     let Line {
         edition,
@@ -85,7 +87,7 @@ pub fn read_select(line: Line, entry: &mut Entry) -> Result<(), Kind>
     let mut count = 0;
     while let Some(field) = fields.next_field() {
         if is_last_default(field, &fields) {
-            return choose(pid, word, cases, fine, true, entry);
+            return choose(pid, word, cases, fine, true, place);
         }
         let case = read_case(edition, field)?;
         // One case too many is a fault of shape, as any in the fields behind it would be.
@@ -102,5 +104,5 @@ pub fn read_select(line: Line, entry: &mut Entry) -> Result<(), Kind>
             Err(_number) => fine = false,
         }
     }
-    choose(pid, word, cases, fine, false, entry)
+    choose(pid, word, cases, fine, false, place)
 }

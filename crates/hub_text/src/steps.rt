@@ -1,19 +1,18 @@
 //! Reading an entry from the fields of its line: first their number, then what they spell.
 //!
-//! It is read into a given entry, which may be any after a fault.
+//! It is read into a given place, in which any entry may stand after a fault.
 
-ghost use Rattle.std.specs.Prelude.{◌≡◌, ◌≤◌, ◌<◌, ◌∷◌, [], false, IfOk};
-ghost use Rattle.hub_base.specs.Lines.{numeral, read_exit, read_send, read_reopen, read_step, read_fields, pieces, case_of, recv_case, by, call, same_text};
+ghost use Rattle.std.specs.Prelude.{◌≡◌, ◌≤◌, IfOk};
+ghost use Rattle.hub_base.specs.Lines.{numeral, read_exit, read_send, read_reopen, read_step, read_fields, pieces, case_of, recv_case, same_text};
 ghost use Rattle.hub_base.specs.Lines.Draft.{Sends};
 ghost use Rattle.hub_text.specs.Filling.{Fills, read_one_number};
 
 use crate::fields::Fields;
 use crate::numbers::number;
+use crate::place::EntryPlace;
 use crate::selects::read_select;
 use crate::values::read_value;
-use hub_base::{
-    Case, Cases, Edition, Entry, GREATEST_CAP, GREATEST_PID, GREATEST_PORT, Kind, Pid, Port, Step,
-};
+use hub_base::{Case, Edition, GREATEST_CAP, GREATEST_PID, GREATEST_PORT, Kind, Pid, Port, Step};
 
 /// The number that a field spells.
 pub fn numeral(bytes: &[u8], most: u64) -> Result<u64, Kind>
@@ -68,53 +67,6 @@ pub fn recv_of(port: &[u8]) -> Result<Case, Kind>
     Ok(Case::Recv(Port(port)))
 }
 
-/// Makes the step a call of one case, without default and with word 0.
-#[inline]
-pub fn set_call(step: &mut Step, case: Case)
-    ensures { step.new ≡ call (case ∷ []) false 0 }
-{
-    // A call that stands there already is changed in place, since a new one is 648 bytes.
-    if !matches!(step, Step::Call { .. }) {
-        set_empty_call(step);
-    }
-    if let Step::Call {
-        cases,
-        default,
-        word,
-    } = step
-    {
-        set_case(cases, case);
-        *default = false;
-        *word = 0;
-    }
-}
-
-/// Makes this the only case.
-#[inline]
-fn set_case(cases: &mut Cases, case: Case)
-    ensures { cases.new.items ≡ case ∷ [] }
-{
-    if cases.len() == 1 {
-        cases[0] = case;
-    } else {
-        cases.clear();
-        cases.push(case);
-    }
-}
-
-/// Makes the step a call without cases. It stands apart, so that the call is made where the step is, and no case that
-/// is set is anywhere else in memory.
-#[inline(never)]
-pub fn set_empty_call(step: &mut Step)
-    ensures { step.new ≡ call [] false 0 }
-{
-    *step = Step::Call {
-        cases: Cases::new(),
-        default: false,
-        word: 0,
-    };
-}
-
 /// A line of a journal of this edition, whose word was read.
 #[derive(Drop)]
 pub struct Line<'a> {
@@ -137,39 +89,39 @@ enum OneNumber {
 }
 
 /// What `P make C`, `P recv PORT`, `P close PORT`, `P cancel Q` or `P start Q` says, from the field behind the word on.
-fn read_one_number(word: OneNumber, mut line: Line, entry: &mut Entry) -> Result<(), Kind>
-    ensures { Fills result entry.new (read_one_number word line.entry.pid.now line.entry.fields) }
+fn read_one_number(word: OneNumber, mut line: Line, place: &mut EntryPlace) -> Result<(), Kind>
+    ensures { Fills result place.new (read_one_number word line.entry.pid.now line.entry.fields) }
 {
     let number = line.fields.expect_field()?;
     line.fields.expect_end()?;
-    entry.pid = Pid(process(line.pid)?);
+    place.pid = Pid(process(line.pid)?);
     match word {
-        OneNumber::Make => entry.step = Step::Make(capacity(number)?),
-        OneNumber::Recv => set_call(&mut entry.step, Case::Recv(Port(port_number(number)?))),
-        OneNumber::Close => entry.step = Step::Close(Port(port_number(number)?)),
-        OneNumber::Cancel => entry.step = Step::Cancel(Pid(process(number)?)),
-        OneNumber::Start => entry.step = Step::Start(Pid(process(number)?)),
+        OneNumber::Make => place.step.bare = Step::Make(capacity(number)?),
+        OneNumber::Recv => place.step.set_call(Case::Recv(Port(port_number(number)?))),
+        OneNumber::Close => place.step.bare = Step::Close(Port(port_number(number)?)),
+        OneNumber::Cancel => place.step.bare = Step::Cancel(Pid(process(number)?)),
+        OneNumber::Start => place.step.bare = Step::Start(Pid(process(number)?)),
     }
     Ok(())
 }
 
 /// What `P send PORT V` says, from the field behind the word on.
-fn read_send(mut line: Line, entry: &mut Entry) -> Result<(), Kind>
-    ensures { Fills result entry.new (read_send line.entry.edition line.entry.pid.now line.entry.fields) }
+fn read_send(mut line: Line, place: &mut EntryPlace) -> Result<(), Kind>
+    ensures { Fills result place.new (read_send line.entry.edition line.entry.pid.now line.entry.fields) }
 {
     let port = line.fields.expect_field()?;
     let value = line.fields.expect_field()?;
     line.fields.expect_end()?;
     let pid = process(line.pid)?;
     let case = send_of(line.edition, port, value)?;
-    entry.pid = Pid(pid);
-    set_call(&mut entry.step, case);
+    place.pid = Pid(pid);
+    place.step.set_call(case);
     Ok(())
 }
 
 /// What `P reopen PORT C` says, from the field behind the word on.
-fn read_reopen(mut line: Line, entry: &mut Entry) -> Result<(), Kind>
-    ensures { Fills result entry.new (read_reopen line.entry.pid.now line.entry.fields) }
+fn read_reopen(mut line: Line, place: &mut EntryPlace) -> Result<(), Kind>
+    ensures { Fills result place.new (read_reopen line.entry.pid.now line.entry.fields) }
 {
     let port = line.fields.expect_field()?;
     let cap = line.fields.expect_field()?;
@@ -177,8 +129,8 @@ fn read_reopen(mut line: Line, entry: &mut Entry) -> Result<(), Kind>
     let pid = process(line.pid)?;
     let port = port_number(port)?;
     let cap = capacity(cap)?;
-    entry.pid = Pid(pid);
-    entry.step = Step::Reopen {
+    place.pid = Pid(pid);
+    place.step.bare = Step::Reopen {
         port: Port(port),
         cap,
     };
@@ -186,47 +138,47 @@ fn read_reopen(mut line: Line, entry: &mut Entry) -> Result<(), Kind>
 }
 
 /// What `P exit` says, from the field behind the word on.
-fn read_exit(mut line: Line, entry: &mut Entry) -> Result<(), Kind>
-    ensures { Fills result entry.new (read_exit line.entry.pid.now line.entry.fields) }
+fn read_exit(mut line: Line, place: &mut EntryPlace) -> Result<(), Kind>
+    ensures { Fills result place.new (read_exit line.entry.pid.now line.entry.fields) }
 {
     line.fields.expect_end()?;
     let pid = process(line.pid)?;
-    entry.pid = Pid(pid);
-    entry.step = Step::Exit;
+    place.pid = Pid(pid);
+    place.step.bare = Step::Exit;
     Ok(())
 }
 
 /// What a line says, by its second field.
-fn read_step(word: &[u8], line: Line, entry: &mut Entry) -> Result<(), Kind>
-    ensures { Fills result entry.new
+fn read_step(word: &[u8], line: Line, place: &mut EntryPlace) -> Result<(), Kind>
+    ensures { Fills result place.new
         (read_step line.entry.edition line.entry.pid.now word.now line.entry.fields) }
 {
     if same_text(word, b"make") {
-        read_one_number(OneNumber::Make, line, entry)
+        read_one_number(OneNumber::Make, line, place)
     } else if same_text(word, b"send") {
-        read_send(line, entry)
+        read_send(line, place)
     } else if same_text(word, b"recv") {
-        read_one_number(OneNumber::Recv, line, entry)
+        read_one_number(OneNumber::Recv, line, place)
     } else if same_text(word, b"select") {
-        read_select(line, entry)
+        read_select(line, place)
     } else if same_text(word, b"close") {
-        read_one_number(OneNumber::Close, line, entry)
+        read_one_number(OneNumber::Close, line, place)
     } else if same_text(word, b"exit") {
-        read_exit(line, entry)
+        read_exit(line, place)
     } else if line.edition.has_cancel() && same_text(word, b"cancel") {
-        read_one_number(OneNumber::Cancel, line, entry)
+        read_one_number(OneNumber::Cancel, line, place)
     } else if line.edition.has_lives() && same_text(word, b"start") {
-        read_one_number(OneNumber::Start, line, entry)
+        read_one_number(OneNumber::Start, line, place)
     } else if line.edition.has_lives() && same_text(word, b"reopen") {
-        read_reopen(line, entry)
+        read_reopen(line, place)
     } else {
         Err(Kind::BadStep)
     }
 }
 
 /// What a line without its newline says in a journal of this edition.
-pub fn read_line(edition: Edition, line: &[u8], entry: &mut Entry) -> Result<(), Kind>
-    ensures { Fills result entry.new (read_fields edition (pieces 32 line.now)) }
+pub fn read_line(edition: Edition, line: &[u8], place: &mut EntryPlace) -> Result<(), Kind>
+    ensures { Fills result place.new (read_fields edition (pieces 32 line.now)) }
 {
     let mut fields = Fields::of(line, b' ');
     let pid = fields.expect_field()?;
@@ -236,5 +188,5 @@ pub fn read_line(edition: Edition, line: &[u8], entry: &mut Entry) -> Result<(),
         pid,
         fields,
     };
-    read_step(word, line, entry)
+    read_step(word, line, place)
 }

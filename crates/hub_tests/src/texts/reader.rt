@@ -2,16 +2,39 @@
 
 use super::written::write;
 use crate::compare::same;
-use crate::steps::entries::{Ask, entry_of};
-use hub_base::{Entry, Kind, TextFault};
-use hub_text::Reader;
+use hub_base::{Kind, TextFault};
+use hub_text::{EntryPlace, Reader};
 use std::process::Abort;
 
-const TEXT: &[u8] =
-    b"chanhub journal 1\nprocs 64\n0 select 9 s1:2 r3 default\n1 recv 4\n2 send 5 6\n3 exit\n4 recv 0\n5 close 1\n";
+const TEXT: &[u8] = b"chanhub journal 3\n\
+    procs 64\n\
+    0 select 9 s1:2 r3 default\n\
+    1 recv 4\n\
+    2 send 5 6\n\
+    3 exit\n\
+    4 recv 0\n\
+    5 close 1\n\
+    0 start 3\n\
+    0 reopen 1 7\n\
+    6 select 0 r1 r2 s3:4\n\
+    7 make 8\n\
+    7 send 9 #0a\n\
+    8 select 0\n\
+    8 cancel 6\n";
 
-const LINES: &[u8] =
-    b"0 select 9 s1:2 r3 default\n1 recv 4\n2 send 5 6\n3 exit\n4 recv 0\n5 close 1\n";
+const LINES: &[u8] = b"0 select 9 s1:2 r3 default\n\
+    1 recv 4\n\
+    2 send 5 6\n\
+    3 exit\n\
+    4 recv 0\n\
+    5 close 1\n\
+    0 start 3\n\
+    0 reopen 1 7\n\
+    6 select 0 r1 r2 s3:4\n\
+    7 make 8\n\
+    7 send 9 #0a\n\
+    8 select 0\n\
+    8 cancel 6\n";
 
 #[test]
 fn entries_are_read_into_one(rt: HostRuntime) {
@@ -27,25 +50,25 @@ fn open(text: &[u8]) -> Result<Reader<'_>, TextFault> {
     Reader::open(text)
 }
 
-/// Reads the six entries into one, and writes each behind what was written.
+/// Reads the thirteen entries into one place, and writes each behind what was written.
 fn read_all(rt: &impl Abort, reader: &mut Reader, written: &mut Vec<u8>) {
-    let mut entry = entry_of(7, Ask::Make(7));
-    for place in 0..7 {
-        let is_read = read_on(rt, reader, &mut entry, written);
-        same(rt, is_read, Ok(place < 6), place);
+    let mut place = EntryPlace::new();
+    for number in 0..14 {
+        let is_read = read_on(rt, reader, &mut place, written);
+        same(rt, is_read, Ok(number < 13), number);
     }
 }
 
-/// Reads the next entry into this one, if there is one, and writes it.
+/// Reads the next entry into this place, if there is one, and writes it.
 fn read_on(
     rt: &impl Abort,
     reader: &mut Reader,
-    entry: &mut Entry,
+    place: &mut EntryPlace,
     written: &mut Vec<u8>,
 ) -> Result<bool, TextFault> {
-    let is_read = reader.read_into(entry)?;
+    let is_read = reader.read_into(place)?;
     if is_read {
-        let is_written = write(rt, written, reader.head().edition, entry);
+        let is_written = write(rt, written, reader.head().edition, &place.entry());
         same(rt, is_written, true, "memory");
     }
     Ok(is_read)

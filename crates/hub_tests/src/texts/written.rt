@@ -2,7 +2,7 @@
 
 use crate::compare::same;
 use crate::steps::entries::{SENT, Told, event_of};
-use hub_base::{Edition, Entry, Event, Fault, Hears, Journal, NoMemory, ReadFault, Value};
+use hub_base::{Edition, EntryRef, Event, Fault, Hears, Journal, NoMemory, ReadFault, Value};
 use hub_text::{
     EventText, read_journal, write_entry, write_event, write_head, write_journal, write_value,
 };
@@ -90,15 +90,20 @@ fn write_twice(rt: &impl Abort, out: &mut Vec<u8>, journal: &Journal) -> bool {
 fn write_entries(rt: &impl Abort, out: &mut Vec<u8>, journal: &Journal) -> bool {
     let mut is_written = true;
     for entry in journal.entries() {
-        is_written &= write(rt, out, journal.edition(), entry);
+        is_written &= write(rt, out, journal.edition(), &entry.by_slice());
     }
     is_written
 }
 
 /// Writes an entry, which the edition must have; whether memory sufficed.
-pub(super) fn write(rt: &impl Abort, out: &mut Vec<u8>, edition: Edition, entry: &Entry) -> bool {
+pub(super) fn write(
+    rt: &impl Abort,
+    out: &mut Vec<u8>,
+    edition: Edition,
+    entry: &EntryRef<'_>,
+) -> bool {
     assert!(rt; entry.fits(edition));
-    write_entry(out, edition, &entry.by_slice()).is_ok()
+    write_entry(out, edition, entry).is_ok()
 }
 
 const LINES: &[(u8, Told, &str)] = &[

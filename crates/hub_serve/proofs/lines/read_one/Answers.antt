@@ -5,14 +5,14 @@ use Rattle.hub_serve.proofs.lines.read_one.Goals as goal
 
 pub returns-in-Ok-true : goal.returns-in-Ok-true
 returns-in-Ok-true c = λ head body said.
-    read-on head body c.read_into.new.entry c.read_into.new.self.left c.read_out.result (sym said
-    ∙ (subst (λ (b : Bool). FillsOn c.args.reader c.read_into.new.self c.read_into.new.entry (Ok b)) c.in-Ok-true.field-0-test
+    read-on head body c.read_into.new.place c.read_into.new.self.left c.read_out.result (sym said
+    ∙ (subst (λ (b : Bool). FillsOn c.args.reader c.read_into.new.self c.read_into.new.place (Ok b)) c.in-Ok-true.field-0-test
     c.in-Ok-true.ensures.reads).0)
     c.read_out.ensures.ok c.read_out.ensures.err
 
 pub returns-in-Ok-false : goal.returns-in-Ok-false
 returns-in-Ok-false c = λ head body said. absurd (some-said head _ _ (sym said
-    ∙ (subst (λ (b : Bool). FillsOn c.args.reader c.read_into.new.self c.read_into.new.entry (Ok b)) c.in-Ok-false.field-0-test
+    ∙ (subst (λ (b : Bool). FillsOn c.args.reader c.read_into.new.self c.read_into.new.place (Ok b)) c.in-Ok-false.field-0-test
     c.in-Ok-false.ensures.reads).0))
 
 pub returns-in-Err : goal.returns-in-Err

@@ -7,6 +7,6 @@ use Rattle.hub_serve.proofs.lines.read_out.Goals as goal
 pub entries-preserved : goal.entries-preserved
 entries-preserved c =
     let (more, said) = c.entries.invariant in
-    let goes = subst (λ (b : Bool). FillsOn c.entries.reader c.read_into.new.self c.read_into.new.entry (Ok b)) c.in-Ok-true.field-0-test
+    let goes = subst (λ (b : Bool). FillsOn c.entries.reader c.read_into.new.self c.read_into.new.place (Ok b)) c.in-Ok-true.field-0-test
     c.in-Ok-true.ensures.reads in
-    (more ++ c.read_into.new.entry ∷ [], said ∙ ap (behind more) goes.0 ∙ behind-more more c.read_into.new.entry c.read_into.new.self.left)
+    (more ++ c.read_into.new.place ∷ [], said ∙ ap (behind more) goes.0 ∙ behind-more more c.read_into.new.place c.read_into.new.self.left)

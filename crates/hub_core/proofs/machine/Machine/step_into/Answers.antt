@@ -8,9 +8,9 @@ use Rattle.hub_core.proofs.machine.Machine.step_into.Goals as goal
 
 pub returns-in-Some-clause-ok : goal.returns-in-Some-clause-ok
 returns-in-Some-clause-ok g c = λ head es h.
-    let refused = follows_refused head es c.args.entry.now c.args.self.now c.in-Some.fault h (sym (c.in-Some.ensures.run head es h)) in
+    let refused = follows_refused head es c.args.place.now c.args.self.now c.in-Some.fault h (sym (c.in-Some.ensures.run head es h)) in
     record {
-      told = tells c.args.entry.now.pid (what.Fault c.in-Some.fault) ∷ [];
+      told = tells c.args.place.now.pid (what.Fault c.in-Some.fault) ∷ [];
       heard = subst (λ (e : Event). g.E.Hears.heard c.args.events.now (e ∷ []) c.hear.new.self) c.tells.ensures c.hear.ensures.heard;
       answers = refused;
       few = omega arith;
@@ -22,7 +22,7 @@ on_ok (Err e) so p q r = tt
 
 pub returns-clause-ok : goal.returns-clause-ok
 returns-clause-ok g c =
-    rw (← c.by_slice.ensures) (on_ok c.step_admitted.result
+    rw (← c.entry.ensures) (on_ok c.step_admitted.result
     (λ turns heard few. λ head es h.
     let admits = turns.ok head es h in
     record { told = _; heard = heard.events; answers = record { events = admits.events; follows = admits.follows }; few = few })

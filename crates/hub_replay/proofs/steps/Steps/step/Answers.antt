@@ -11,7 +11,7 @@ returns-then-not-branch-clause-ok c = λ bytes text so_far. record {
   more = [];
   written = sym (append-nil c.args.lines.now.lines);
   whole = subst (λ (t : List ℕ). ReplayedWhole bytes t) (sym (append-nil text)) (all-replayed so_far (c.one_reading.ensures.reads bytes)
-      (subst (λ (b : Bool). FillsOn c.args.self.now.reader c.read_into.new.self c.read_into.new.entry (Ok b)) c.if-not-branch.true
+      (subst (λ (b : Bool). FillsOn c.args.self.now.reader c.read_into.new.self c.read_into.new.place (Ok b)) c.if-not-branch.true
       c.in_ok-read_into.ensures.reads).0);
 }
 
@@ -21,7 +21,7 @@ returns-clause-ok c = λ bytes text so_far.
     record {
       more = flat_map event_line tells.told;
       written = tells.heard ∙ ap (λ l. l ++ flat_map event_line tells.told) c.in_ok-make_step_room.ensures.lines;
-      replayed = one-more-replayed so_far c.read_into.new.entry tells.told
-          (subst (λ (b : Bool). FillsOn c.args.self.now.reader c.read_into.new.self c.read_into.new.entry (Ok b)) c.if-not-branch.false
+      replayed = one-more-replayed so_far c.read_into.new.place tells.told
+          (subst (λ (b : Bool). FillsOn c.args.self.now.reader c.read_into.new.self c.read_into.new.place (Ok b)) c.if-not-branch.false
           c.in_ok-read_into.ensures.reads) tells.answers tells.few;
     }

@@ -6,14 +6,14 @@ use Rattle.hub_serve.proofs.running.Running.answer.Goals as goal
 
 pub returns-in_default-steps_after-clause-goes : goal.returns-in_default-steps_after-clause-goes
 returns-in_default-steps_after-clause-goes c = λ head entries line body runs at_line.
-    (entry-beyond entries c.read_entry.new.entry _ _ runs.counted (sym c.in_default-steps_after.ensures) (c.in_default.ensures head line body at_line), refl)
+    (entry-beyond entries c.read_entry.new.place _ _ runs.counted (sym c.in_default-steps_after.ensures) (c.in_default.ensures head line body at_line), refl)
 
 pub returns-clause-goes : goal.returns-clause-goes
 returns-clause-goes c = λ head entries line body runs at_line.
-    let count = entry-counts entries c.read_entry.new.entry _ c.in-Some.steps runs.counted (sym c.in-Some.ensures) in
+    let count = entry-counts entries c.read_entry.new.place _ c.in-Some.steps runs.counted (sym c.in-Some.ensures) in
     let tells = c.in_ok-step_into.ensures.ok head entries runs.follows in
     record {
-      entry = c.read_entry.new.entry;
+      entry = c.read_entry.new.place;
       read = c.in_default.ensures head line body at_line;
       fits = count.fits;
       runs = record { follows = tells.answers.follows; counted = count.counted };

@@ -13,19 +13,19 @@ returns-clause-reads c =
     grind (
       arith,
       common_steps,
-      end-some c.self.inside.rest.now c.quick_exit.new.entry c.in-Some.end begins.spelled begins.inside,
+      end-some c.self.inside.rest.now c.quick_exit.new.place c.in-Some.end begins.spelled begins.inside,
       ap (is_of c.self.inside.head.edition) begins.exit,
-      exit-again c.self.inside.head c.self.inside.line c.self.inside.place c.self.inside.steps c.self.inside.rest.now c.quick_exit.new.entry
+      exit-again c.self.inside.head c.self.inside.line c.self.inside.place c.self.inside.steps c.self.inside.rest.now c.quick_exit.new.place
           c.in-Some.end begins (omega arith) c.self.invariant.steps,
     )
 
 pub returns-clause-some : goal.returns-clause-some
 returns-clause-some c =
     let rest = c.self.inside.rest.now in
-    let read = exit-again c.self.inside.head c.self.inside.line c.self.inside.place c.self.inside.steps rest c.quick_exit.new.entry
+    let read = exit-again c.self.inside.head c.self.inside.line c.self.inside.place c.self.inside.steps rest c.quick_exit.new.place
     c.in-Some.end c.in-Some.ensures (omega arith) c.self.invariant.steps in
     has-entry c.self.inside.head c.self.inside.line (c.self.inside.place + c.in-Some.end) c.self.inside.steps
-    (rows (take (length rest - c.in-Some.end) (drop c.in-Some.end rest))) c.quick_exit.new.entry c.args.self.now.left c.self.invariant.behind_head
+    (rows (take (length rest - c.in-Some.end) (drop c.in-Some.end rest))) c.quick_exit.new.place c.args.self.now.left c.self.invariant.behind_head
     (omega arith) c.self.invariant.steps (ap (λ (r : ReaderView). r.left) (sym c.self.view_is) ∙ read)
 
 pub invariant_of-self : goal.invariant_of-self

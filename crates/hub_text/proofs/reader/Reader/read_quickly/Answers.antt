@@ -12,19 +12,19 @@ returns-in-Some-clause-reads c =
     grind (
       arith,
       common_steps,
-      end-some c.self.inside.rest.now c.quick_line.new.entry c.in-Some.end begins.spelled begins.inside,
+      end-some c.self.inside.rest.now c.quick_line.new.place c.in-Some.end begins.spelled begins.inside,
       begins.fits.of_edition,
-      line-again c.self.inside.head c.self.inside.line c.self.inside.place c.self.inside.steps c.self.inside.rest.now c.quick_line.new.entry
+      line-again c.self.inside.head c.self.inside.line c.self.inside.place c.self.inside.steps c.self.inside.rest.now c.quick_line.new.place
           c.in-Some.end begins (omega arith) (omega arith),
     )
 
 pub returns-in-Some-clause-some : goal.returns-in-Some-clause-some
 returns-in-Some-clause-some c =
     let rest = c.self.inside.rest.now in
-    let read = line-again c.self.inside.head c.self.inside.line c.self.inside.place c.self.inside.steps rest c.quick_line.new.entry
+    let read = line-again c.self.inside.head c.self.inside.line c.self.inside.place c.self.inside.steps rest c.quick_line.new.place
     c.in-Some.end c.in-Some.ensures (omega arith) (omega arith) in
     has-entry c.self.inside.head c.self.inside.line (c.self.inside.place + c.in-Some.end) (c.self.inside.steps + 1)
-    (rows (take (length rest - c.in-Some.end) (drop c.in-Some.end rest))) c.quick_line.new.entry c.args.self.now.left c.self.invariant.behind_head
+    (rows (take (length rest - c.in-Some.end) (drop c.in-Some.end rest))) c.quick_line.new.place c.args.self.now.left c.self.invariant.behind_head
     (omega arith) (omega arith) (ap (λ (r : ReaderView). r.left) (sym c.self.view_is) ∙ read)
 
 pub invariant_of-self : goal.invariant_of-self

@@ -1,6 +1,6 @@
 use Rattle.std.proofs.Common.{◌≤◌, ◌+◌, ◌*◌, ◌-◌}
 use Rattle.hub_text.proofs.QuickLines.{Decoded}
-use Rattle.hub_text.proofs.quick.bytes_at.Given as goal
+use Rattle.hub_text.proofs.standing.bytes_at.Given as goal
 
 -- the bytes that were read so far stand before this place, two digits each
 abbrev pub invariant-loop-len : goal.invariant-loop-len

@@ -1,6 +1,6 @@
 use Rattle.std.proofs.Common.{◌∙◌, arith}
 use Rattle.hub_text.proofs.QuickLines.{stands-word}
-use Rattle.hub_text.proofs.quick.behind_word.Goals as goal
+use Rattle.hub_text.proofs.standing.behind_word.Goals as goal
 
 pub returns-then-from_le_bytes : goal.returns-then-from_le_bytes
 returns-then-from_le_bytes c =

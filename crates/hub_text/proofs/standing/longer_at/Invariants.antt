@@ -1,6 +1,6 @@
 use Rattle.std.proofs.Common.{◌-◌, ◌<◌, length}
 use Rattle.hub_text.specs.Quick.{GoesOn}
-use Rattle.hub_text.proofs.quick.longer_at.Given as goal
+use Rattle.hub_text.proofs.standing.longer_at.Given as goal
 
 -- the number goes on up to this place, behind which there is more, and is not 0
 abbrev pub invariant-loop-value : goal.invariant-loop-value

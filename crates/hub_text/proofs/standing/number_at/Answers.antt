@@ -1,7 +1,7 @@
 use Rattle.std.proofs.Common.{arith}
 use Rattle.std.proofs.lemmas.Option.{IfSome_then}
 use Rattle.hub_text.proofs.QuickLines.{stands-digit, stands-three, stands-two}
-use Rattle.hub_text.proofs.quick.number_at.Goals as goal
+use Rattle.hub_text.proofs.standing.number_at.Goals as goal
 
 pub returns-then-next-gt9 : goal.returns-then-next-gt9
 returns-then-next-gt9 c =

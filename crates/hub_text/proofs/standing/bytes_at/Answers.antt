@@ -1,7 +1,7 @@
 use Rattle.std.proofs.Common.{◌≡◌, ◌<◌, ◌+◌, ◌*◌, ◌/◌, ◌%◌, ℕ, arith, replicate, set, subst}
 use Rattle.hub_base.specs.declared.limits.TheConstants.{MOST_VALUE_BYTES}
 use Rattle.hub_text.proofs.QuickLines.{Decoded, decoded-push, decoded-value, mark-stands}
-use Rattle.hub_text.proofs.quick.bytes_at.Goals as goal
+use Rattle.hub_text.proofs.standing.bytes_at.Goals as goal
 
 pub loop-len-init : goal.loop-len-init
 loop-len-init c =

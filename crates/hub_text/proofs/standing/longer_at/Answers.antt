@@ -1,6 +1,6 @@
 use Rattle.std.proofs.Common.{◌+◌, arith}
 use Rattle.hub_text.proofs.QuickLines.{behind-digit, goes-on, goes-on-two}
-use Rattle.hub_text.proofs.quick.longer_at.Goals as goal
+use Rattle.hub_text.proofs.standing.longer_at.Goals as goal
 
 pub returns-then-last-gt9 : goal.returns-then-last-gt9
 returns-then-last-gt9 c =

@@ -17,10 +17,10 @@ ghost use Rattle.hub_core.specs.HubView.{RefusesOpening, opened_hub, state_of, t
 
 use crate::form::{Form, Short, Whole};
 use crate::log::Log;
-use crate::{Machine, OpenFault, ShortJournal, Terms};
+use crate::{CaseRoom, Machine, OpenFault, ShortJournal, Terms};
 use hub_base::{
-    Cases, Edition, Entry, Fault, Head, Journal, Look, MOST_PROCS, MOST_STEPS, NoMemory, Pid, Port,
-    Value,
+    Cases, Edition, Entry, EntryRef, Fault, Head, Journal, Look, MOST_PROCS, MOST_STEPS, NoMemory,
+    Pid, Port, Value,
 };
 use std::alloc::Global;
 use std::marker::{Model, PhantomData};
@@ -221,14 +221,14 @@ impl<F: Form> HubOf<F> {
         self.entries.len()
     }
 
-    /// The journal's entry at this place, counted from 0; `None` behind the last. No entry is written out for it. Each
-    /// entry was admitted when it came, and is one that the edition has.
-    pub fn entry(&self, place: usize) -> Option<Entry>
+    /// The journal's entry at this place, counted from 0; `None` behind the last. The cases of one that is kept short are put in
+    /// the room for them. Each entry was admitted when it came, and is one that the edition has.
+    pub fn entry<'a>(&'a self, place: usize, room: &'a mut CaseRoom) -> Option<EntryRef<'a>>
         ensures entry { result ≡ slice_get self.now.memory.hub.journal place }
         ensures legal { kept self.now.memory.hub.terms.head self.now.memory.hub.journal ≡ self.now.memory.hub.journal }
         ensures fits { AreOf self.now.memory.hub.terms.head.edition self.now.memory.hub.journal }
     {
-        self.entries.entry(place)
+        self.entries.entry(place, room)
     }
 
     /// The journal of the hub, which ends. It takes no memory.

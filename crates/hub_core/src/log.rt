@@ -311,18 +311,13 @@ impl Log {
         &self.whole
     }
 
-    /// The entry at this place; `None` behind the last. None is written out for it.
-    pub(crate) fn entry(&self, place: usize) -> Option<Entry>
+    /// The entry at this place; `None` behind the last. The cases of one that is kept short are put in the room for them.
+    pub(crate) fn entry<'a>(&'a self, place: usize, room: &'a mut CaseRoom) -> Option<EntryRef<'a>>
         ensures { result ≡ slice_get self.now.items place }
     {
         match self.whole.get(place) {
-            Some(entry) => Some(entry.copy()),
-            None => {
-                let mut room = CaseRoom::new();
-                let place = place - self.whole.len();
-                let entry = short_at(&self.briefs, &self.cases, place, &mut room)?;
-                Some(entry.to_owned())
-            }
+            Some(entry) => Some(entry.by_slice()),
+            None => short_at(&self.briefs, &self.cases, place - self.whole.len(), room),
         }
     }
 

@@ -12,8 +12,8 @@ ghost use Rattle.hub_live.specs.Locked.{none_waits};
 ghost use Rattle.hub_live.specs.Prelude.{AreOf, is_of, refusal, IsLegal, state_of, answer_for, IsReplyTo, ServesStep, without_answer};
 
 use crate::answers::{Answers, Pids};
-use hub_base::{Entry, EntryRef, Event, Fault, Head, Journal, Look, NoMemory, Pid, Port};
-use hub_core::{Hub, ShortHub, ShortJournal};
+use hub_base::{EntryRef, Event, Fault, Head, Journal, Look, NoMemory, Pid, Port};
+use hub_core::{CaseRoom, Hub, ShortHub, ShortJournal};
 use std::alloc::Global;
 use std::marker::Model;
 
@@ -128,14 +128,14 @@ impl Locked {
         self.hub.len()
     }
 
-    /// The journal's entry at this place, counted from 0; `None` behind the last. The journal is legal: each of its entries
-    /// was admitted when it came, and is one that the edition has. No entry is written out for it.
-    pub fn entry(&self, place: usize) -> Option<Entry>
+    /// The journal's entry at this place, counted from 0; `None` behind the last. The cases of one that is kept short are put in
+    /// the room for them. The journal is legal: each of its entries was admitted when it came, and is one that the edition has.
+    pub fn entry<'a>(&'a self, place: usize, room: &'a mut CaseRoom) -> Option<EntryRef<'a>>
         ensures entry { result ≡ slice_get self.now.hub.journal place }
         ensures legal { IsLegal self.now.hub.terms.head self.now.hub.journal }
         ensures fits { AreOf self.now.hub.terms.head.edition self.now.hub.journal }
     {
-        self.hub.entry(place)
+        self.hub.entry(place, room)
     }
 
     /// The journal. Answers that wait are dropped.

@@ -6,6 +6,7 @@ use hub_base::{
     Case, Cases, CasesExt, Entry, Event, Fault, Kind, Pid, Port, Step, TextFault, Value, cases_from,
 };
 use hub_chain::ChainFault;
+use hub_core::CaseRoom;
 use hub_follow::{AfterDivergence, Follower, NotMade};
 use std::alloc::Global;
 use std::process::Abort;
@@ -206,7 +207,8 @@ fn choosing(rt: &impl Abort, alloc: Global) -> Result<Follower, ChainFault> {
 
 /// The call that stands here in the hub's journal has this choice word.
 fn has_word(rt: &impl Abort, hub: &Follower, place: usize, wanted: u64) {
-    let found = match hub.locked().entry(place) {
+    let mut room = CaseRoom::new();
+    let found = match hub.locked().entry(place, &mut room) {
         Some(
             Entry {
                 pid: _,

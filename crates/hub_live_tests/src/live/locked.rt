@@ -5,7 +5,7 @@ use super::{
 };
 use crate::compare::same;
 use hub_base::{Edition, Entry, Event, Fault, Look, Pid, Port};
-use hub_core::Hub;
+use hub_core::{CaseRoom, Hub};
 use hub_live::under_lock::Locked;
 use std::alloc::Global;
 use std::process::Abort;
@@ -53,8 +53,9 @@ fn follow_row(rt: &impl Abort, locked: &mut Locked, row: Row, place: (&str, usiz
 
 /// Whether this process asked for this at this place of the journal, or nothing stands there.
 fn has_entry(locked: &Locked, at: usize, asked: Option<(u8, Ask)>) -> bool {
-    match (locked.entry(at), asked) {
-        (Some(entry), Some((pid, asked))) => entry == entry_of(pid, asked),
+    let mut room = CaseRoom::new();
+    match (locked.entry(at, &mut room), asked) {
+        (Some(entry), Some((pid, asked))) => entry.to_owned() == entry_of(pid, asked),
         (None, None) => true,
         _ => false,
     }

@@ -26,12 +26,13 @@ struct cut {
     bool cut, chapter; /* whether it was made; whether a chapter waits to be read */
 };
 
-/* What a reading of a piece of a text came to, by number. */
+/* What a reading of pieces of a text came to, by number. */
 enum { NO_PIECE, WRITTEN, NO_ROOM, NO_MEMORY };
 
 struct piece {
     uint8_t what;
-    uint64_t length; /* how many bytes were written; if there was no room, how many it wants */
+    uint32_t count;  /* how many pieces were written */
+    uint64_t length; /* how many bytes were written; if there was no room, how many the first wants */
 };
 
 /* What an opening of a hub that follows a journal came to. */
@@ -51,8 +52,9 @@ struct next {
     uint16_t port; /* of a send, a receive, a close or a reopen; else 0 */
 };
 
-/* Reads a piece of a text: of the journal, of the chapter before the present one, of the one that waits, of the journal that is
- * followed; or the line of the step at which the hub diverged from that, as piece 0. */
+/* Reads pieces of a text, from this number on, as many whole ones as have room, up to some bound: of the journal, of the chapter before
+ * the present one, of the one that waits, of the journal that is followed; or the line of the step at which the hub diverged from that,
+ * as piece 0. */
 typedef struct piece reader(struct hub *hub, uint64_t number, uint8_t *place, size_t room);
 
 uint8_t hub_c_open(struct hub *hub, uint8_t edition, uint8_t procs, uint32_t limit);
@@ -81,6 +83,7 @@ bool hub_c_let_go(struct hub *hub);
 
 /* The layouts that crates/hub_session has. */
 _Static_assert(sizeof(struct hub) == 16 && sizeof(struct piece) == 16 && sizeof(struct cut) == 2 && sizeof(struct followed) == 8, "");
+_Static_assert(offsetof(struct piece, count) == 4 && offsetof(struct piece, length) == 8, "");
 _Static_assert(sizeof(chanhub_value) == 48 && offsetof(chanhub_value, is_bytes) == 8 && offsetof(chanhub_value, bytes) == 10, "");
 _Static_assert(sizeof(chanhub_case) == 56 && offsetof(chanhub_case, port) == 2 && offsetof(chanhub_case, value) == 8, "");
 _Static_assert(sizeof(chanhub_told) == 56 && offsetof(chanhub_told, port) == 4 && offsetof(chanhub_told, value) == 8, "");

@@ -7,11 +7,9 @@
 #include <sched.h>
 #include <stdarg.h>
 #include <stdio.h>
+#include <string.h>
 
-enum {
-    SLICE = 256, /* how many pieces of a chapter are read before others are let in */
-    YIELDS = 100 /* how often a thread yields to let others in */
-};
+enum { YIELDS = 100 }; /* how often a thread yields to let others in */
 
 /* Lets go of the lock, and takes it again. Those that sleep for it take longer to wake up than this thread to take it again, so
  * it lets them be first, unless that takes too long. */
@@ -31,31 +29,33 @@ static bool make_room(struct text *text, size_t more) {
     return true;
 }
 
-/* Puts a piece of a journal behind the text. Returns WRITTEN, NO_PIECE or NO_MEMORY. Holds the lock. */
-static int add_piece(chanhub *h, struct text *text, reader *read, uint64_t number) {
+/* Puts pieces of a journal behind the text, from this number on: some, or as many as have room. Tells WRITTEN, NO_PIECE or NO_MEMORY.
+ * Holds the lock. */
+static struct piece add_pieces(chanhub *h, struct text *text, reader *read, uint64_t number) {
     for (;;) {
         uint8_t *place = text->bytes ? (uint8_t *)text->bytes + text->length : NULL;
         struct piece piece = read(&h->hub, number, place, text->room - text->length);
         if (piece.what == WRITTEN) text->length += piece.length;
-        if (piece.what != NO_ROOM) return piece.what;
-        if (!make_room(text, piece.length)) return NO_MEMORY;
+        if (piece.what != NO_ROOM) return piece;
+        if (!make_room(text, piece.length)) return (struct piece){ .what = NO_MEMORY };
     }
 }
 
 /* Puts all pieces of a journal together. Returns whether there is such a journal; the text has no bytes if memory is refused.
- * Holds the lock; if the journal stays as it is meanwhile, not between slices of it. */
+ * Holds the lock; if the journal stays as it is meanwhile, not between readings of it. */
 bool read_text(chanhub *h, struct text *text, reader *read, bool stays) {
     uint64_t number = 0;
-    int what;
+    struct piece piece;
     *text = (struct text){ 0 };
-    while ((what = add_piece(h, text, read, number)) == WRITTEN) {
-        if (++number % SLICE == 0 && stays) let_others_in(h);
+    while ((piece = add_pieces(h, text, read, number)).what == WRITTEN) {
+        number += piece.count;
+        if (stays) let_others_in(h);
     }
-    if (what == NO_MEMORY) {
+    if (piece.what == NO_MEMORY) {
         heap_free(text->bytes);
         *text = (struct text){ 0 };
     }
-    return number || what == NO_MEMORY;
+    return number || piece.what == NO_MEMORY;
 }
 
 /* The text of a journal. */
@@ -87,8 +87,8 @@ void chanhub_free_text(char *text) {
 /* Reads the line that a piece is, without its newline; no bytes if there is none. Returns whether memory was there. Holds the lock. */
 static bool read_line(chanhub *h, struct text *line, reader *read, uint64_t number) {
     *line = (struct text){ 0 };
-    int what = add_piece(h, line, read, number);
-    line->length -= what == WRITTEN;
+    uint8_t what = add_pieces(h, line, read, number).what;
+    if (what == WRITTEN) line->length = (size_t)((char *)memchr(line->bytes, '\n', line->length) - line->bytes);
     return what != NO_MEMORY;
 }
 

@@ -9,15 +9,15 @@ ghost use Rattle.std.specs.Prelude.{◌≡◌, None, Some};
 ghost use Rattle.hub_base.specs.Lines.{by};
 ghost use Rattle.hub_base.specs.Notation.{cancel, close, exit, make, recv, reopen, start};
 ghost use Rattle.hub_session.specs.Cuts.{Cuts, LetsGo};
-ghost use Rattle.hub_session.specs.Looks.{Looks, ReadsPiece, Stays, asked_of, before_of, clock_number, entries_of, given_of, next_bits, next_step, present_of, waiting_of};
-ghost use Rattle.hub_session.specs.Pieces.{Reads, only_line};
+ghost use Rattle.hub_session.specs.Looks.{Looks, ReadsText, clock_number, entries_of, next_bits, next_step};
+ghost use Rattle.hub_session.specs.declared.text.Text.TheVariants.{Asked, Before, Given, Present, Waiting};
 ghost use Rattle.hub_session.specs.Opens.{OpensEndless, OpensFollowing, OpensSession};
 ghost use Rattle.hub_session.specs.Steps.{Steps, Takes};
 ghost use Rattle.hub_session.specs.Structs.{call_of, is_true, send_of};
 
 use hub_base::{Pid, Port, Step, StepRef};
 use hub_session::{
-    CaseC, CountsC, CutC, FollowC, HubC, NO_CLOCK, NextC, PieceC, ToldC, ValueC, counts_told,
+    CaseC, CountsC, CutC, FollowC, HubC, NO_CLOCK, NextC, PieceC, Text, ToldC, ValueC, counts_told,
     is_true, next_told, no_piece, open_box, open_endless_box, open_following_box, tell_bad_call,
 };
 use std::alloc::Global;
@@ -301,85 +301,75 @@ pub extern "C" fn hub_c_entries(alloc: Global, hub: &mut HubC) -> u64
     entries
 }
 
-/// Writes piece `number` of the journal's text at the head of `place`: piece 0 is the head lines, and piece k + 1 the line of
-/// entry k. Where it has no room there, nothing is written, and it is told how much it wants.
-#[unsafe(no_mangle)]
+/// Writes pieces of a text.
 #[tactic(auto, using(crate::proofs::Texts::pieces_are_text))]
+fn read(alloc: Global, hub: &mut HubC, text: Text, number: u64, place: &mut [u8]) -> PieceC
+    ensures { ReadsText text hub.old.session number hub.new.session place.old place.new result }
+{
+    let Some(mut session) = hub.take_out(alloc) else {
+        return no_piece();
+    };
+    let told = session.read(text, number, place);
+    hub.put_in(session);
+    told
+}
+
+/// Writes pieces of the journal's text at the head of `place`, from piece `number` on: as many whole ones as have room there, up to
+/// some bound, and at least that one. Piece 0 is the head lines, and piece k + 1 the line of entry k. Where piece `number` has no
+/// room there, nothing is written, and it is told how much it wants.
+#[unsafe(no_mangle)]
 pub extern "C" fn hub_c_present(
     alloc: Global,
     hub: &mut HubC,
     number: u64,
     place: &mut [u8],
 ) -> PieceC
-    ensures { ReadsPiece hub.old.session (present_of hub.old.session) number hub.new.session place.old place.new result }
+    ensures { ReadsText Present hub.old.session number hub.new.session place.old place.new result }
 {
-    let Some(mut session) = hub.take_out(alloc) else {
-        return no_piece();
-    };
-    let told = session.read_present(number, place);
-    hub.put_in(session);
-    told
+    read(alloc, hub, Text::Present, number, place)
 }
 
 /// The same of the chapter before the present one.
 #[unsafe(no_mangle)]
-#[tactic(auto, using(crate::proofs::Texts::pieces_are_text))]
 pub extern "C" fn hub_c_before(
     alloc: Global,
     hub: &mut HubC,
     number: u64,
     place: &mut [u8],
 ) -> PieceC
-    ensures { ReadsPiece hub.old.session (before_of hub.old.session) number hub.new.session place.old place.new result }
+    ensures { ReadsText Before hub.old.session number hub.new.session place.old place.new result }
 {
-    let Some(mut session) = hub.take_out(alloc) else {
-        return no_piece();
-    };
-    let told = session.read_before(number, place);
-    hub.put_in(session);
-    told
+    read(alloc, hub, Text::Before, number, place)
 }
 
 /// The same of the chapter that waits to be read.
 #[unsafe(no_mangle)]
-#[tactic(auto, using(crate::proofs::Texts::pieces_are_text))]
 pub extern "C" fn hub_c_waiting(
     alloc: Global,
     hub: &mut HubC,
     number: u64,
     place: &mut [u8],
 ) -> PieceC
-    ensures { ReadsPiece hub.old.session (waiting_of hub.old.session) number hub.new.session place.old place.new result }
+    ensures { ReadsText Waiting hub.old.session number hub.new.session place.old place.new result }
 {
-    let Some(mut session) = hub.take_out(alloc) else {
-        return no_piece();
-    };
-    let told = session.read_waiting(number, place);
-    hub.put_in(session);
-    told
+    read(alloc, hub, Text::Waiting, number, place)
 }
 
 /// The same of the journal that the hub follows.
 #[unsafe(no_mangle)]
-#[tactic(auto, using(crate::proofs::Texts::pieces_are_text))]
 pub extern "C" fn hub_c_given(
     alloc: Global,
     hub: &mut HubC,
     number: u64,
     place: &mut [u8],
 ) -> PieceC
-    ensures { ReadsPiece hub.old.session (given_of hub.old.session) number hub.new.session place.old place.new result }
+    ensures { ReadsText Given hub.old.session number hub.new.session place.old place.new result }
 {
-    let Some(mut session) = hub.take_out(alloc) else {
-        return no_piece();
-    };
-    let told = session.read_given(number, place);
-    hub.put_in(session);
-    told
+    read(alloc, hub, Text::Given, number, place)
 }
 
-/// Writes the line of the step at which the hub diverged from the journal that it follows, in the same way, as piece 0 of a text
-/// that has no other. There is none as long as no step was told as a divergence.
+/// The same of the line of the step at which the hub diverged from the journal that it follows, as the only piece. There is none as
+/// long as no step was told as a divergence.
 #[unsafe(no_mangle)]
 pub extern "C" fn hub_c_asked(
     alloc: Global,
@@ -387,15 +377,9 @@ pub extern "C" fn hub_c_asked(
     number: u64,
     place: &mut [u8],
 ) -> PieceC
-    ensures reads { Reads (only_line (asked_of hub.old.session) number) place.old place.new result }
-    ensures stays { Stays hub.old.session hub.new.session }
+    ensures { ReadsText Asked hub.old.session number hub.new.session place.old place.new result }
 {
-    let Some(mut session) = hub.take_out(alloc) else {
-        return no_piece();
-    };
-    let told = session.read_asked(number, place);
-    hub.put_in(session);
-    told
+    read(alloc, hub, Text::Asked, number, place)
 }
 
 /// Cuts a hub that never ends. Not while a chapter waits to be read, and not if memory is refused.

@@ -280,6 +280,7 @@ impl Brief {
 
     /// Its entry, whose cases are put in the room for them. Where they are not kept with it, they begin there among those of all
     /// entries.
+    #[inline(always)]
     fn by_slice<'a>(self, cases: &CaseList, first: usize, room: &'a mut CaseRoom) -> EntryRef<'a>
         requires there { first + case_count self ≤ length cases.now.items }
         requires few { case_count self ≤ CASE_PLACES }
@@ -363,6 +364,7 @@ pub(crate) fn write_out(whole: &mut Vec<Entry>, briefs: &[Brief], cases: &CaseLi
 }
 
 /// The entry at this place of those that are kept short, whose cases are put in the room for them; `None` behind the last.
+#[inline(always)]
 pub(crate) fn short_at<'a>(
     briefs: &[Brief],
     cases: &CaseList,

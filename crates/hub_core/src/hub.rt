@@ -223,6 +223,7 @@ impl<F: Form> HubOf<F> {
 
     /// The journal's entry at this place, counted from 0; `None` behind the last. The cases of one that is kept short are put in
     /// the room for them. Each entry was admitted when it came, and is one that the edition has.
+    #[inline(always)]
     pub fn entry<'a>(&'a self, place: usize, room: &'a mut CaseRoom) -> Option<EntryRef<'a>>
         ensures entry { result ≡ slice_get self.now.memory.hub.journal place }
         ensures legal { kept self.now.memory.hub.terms.head self.now.memory.hub.journal ≡ self.now.memory.hub.journal }

@@ -312,6 +312,7 @@ impl Log {
     }
 
     /// The entry at this place; `None` behind the last. The cases of one that is kept short are put in the room for them.
+    #[inline(always)]
     pub(crate) fn entry<'a>(&'a self, place: usize, room: &'a mut CaseRoom) -> Option<EntryRef<'a>>
         ensures { result ≡ slice_get self.now.items place }
     {

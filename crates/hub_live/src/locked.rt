@@ -130,6 +130,7 @@ impl Locked {
 
     /// The journal's entry at this place, counted from 0; `None` behind the last. The cases of one that is kept short are put in
     /// the room for them. The journal is legal: each of its entries was admitted when it came, and is one that the edition has.
+    #[inline(always)]
     pub fn entry<'a>(&'a self, place: usize, room: &'a mut CaseRoom) -> Option<EntryRef<'a>>
         ensures entry { result ≡ slice_get self.now.hub.journal place }
         ensures legal { IsLegal self.now.hub.terms.head self.now.hub.journal }

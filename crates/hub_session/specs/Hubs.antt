@@ -5,6 +5,7 @@ use Rattle.hub_base.specs.declared.counts.Look.{Look}
 use Rattle.hub_base.specs.declared.head.Head.{Head}
 use Rattle.hub_base.specs.declared.value.Pid.{Pid}
 use Rattle.hub_base.specs.declared.value.Port.{Port}
+use Rattle.hub_base.specs.Entry.{Entry}
 use Rattle.hub_base.specs.Journal.{JournalView}
 use Rattle.hub_base.specs.Runs.{state}
 use Rattle.hub_core.specs.HubView.{ShortInMemory, state_of}
@@ -51,6 +52,11 @@ abbrev pub given_in : Opened → Option JournalView
 given_in (Limited l) = None
 given_in (Endless l) = None
 given_in (Following l) = Some (record { head = l.locked.hub.terms.head; entries = l.given })
+
+-- the first step that was told as a divergence from it, if one was
+abbrev pub asked_in : Opened → Option Entry
+asked_in (Following l) = l.asked
+asked_in other = None
 
 -- the chapter that waits to be read, where one does
 abbrev pub waiting_in : Option ShortInMemory → Option JournalView

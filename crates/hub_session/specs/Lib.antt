@@ -5,6 +5,7 @@ pub mod Opens
 pub mod Steps
 pub mod Cuts
 pub mod Pieces
+pub mod Texts
 pub mod Looks
 pub mod Held
 pub mod Rows

@@ -1,5 +1,5 @@
 -- What C reads of a hub, which stays as it is.
-use Rattle.std.specs.Prelude.{◌≡◌, ℕ, List, length, Option, None, Some, IfSome, option_and_then}
+use Rattle.std.specs.Prelude.{◌≡◌, ℕ, List, [], length, drop, Option, None, Some, IfSome, option_and_then}
 use Rattle.std.specs.Option.{option_map, option_map_or}
 use Rattle.hub_base.specs.Entry.{Entry}
 use Rattle.hub_base.specs.Journal.{JournalView}
@@ -14,8 +14,10 @@ use Rattle.hub_session.specs.declared.structs.CountsC.{CountsC}
 use Rattle.hub_session.specs.declared.structs.NextC.{NextC}
 use Rattle.hub_session.specs.declared.structs.PieceC.{PieceC}
 use Rattle.hub_session.specs.declared.structs.TheConstants.{NO_CLOCK}
-use Rattle.hub_session.specs.Hubs.{IsLook, before_in, given_in, present_in, waiting_in}
-use Rattle.hub_session.specs.Pieces.{AreText, IsLegalJournal, Reads, piece_in}
+use Rattle.hub_session.specs.declared.text.Text.{Text}
+use Rattle.hub_session.specs.Hubs.{IsLook, present_in}
+use Rattle.hub_session.specs.Pieces.{AreText, IsLegalJournal, Reads}
+use Rattle.hub_session.specs.Texts.{journal_of_text, pieces_of}
 use Rattle.hub_session.specs.Tells.{bit_of, clock_told, counts_told, next_told}
 
 -- ---- a port
@@ -56,36 +58,16 @@ clock_in other = NO_CLOCK
 abbrev pub clock_number : Option Session → ℕ
 clock_number s = option_map_or (λ s. clock_in s.hub) s NO_CLOCK
 
--- the first step that was told as a divergence from it, if one was
-abbrev pub asked_in : Opened → Option Entry
-asked_in (Following l) = l.asked
-asked_in other = None
-
-abbrev pub asked_of : Option Session → Option Entry
-asked_of s = option_and_then (λ s. asked_in s.hub) s
-
 -- ---- journals
 -- the journal; of a hub that never ends, its present chapter
 abbrev pub present_of : Option Session → Option JournalView
 present_of s = option_map (λ s. present_in s.hub) s
 
--- the chapter before it
-abbrev pub before_of : Option Session → Option JournalView
-before_of s = option_and_then (λ s. before_in s.hub) s
-
--- the chapter that waits to be read
-abbrev pub waiting_of : Option Session → Option JournalView
-waiting_of s = option_and_then (λ s. waiting_in s.chapter) s
-
--- the journal that the hub follows
-abbrev pub given_of : Option Session → Option JournalView
-given_of s = option_and_then (λ s. given_in s.hub) s
-
 -- how many entries the journal has
 abbrev pub entries_of : Option Session → ℕ
 entries_of s = option_map_or (λ j. length j.entries) (present_of s) 0
 
--- all is as before, but for the room where a piece is put together
+-- all is as before, but for the room where pieces are put together
 pub record StaysIn (was now : Session) : Type 0 where
   pub hub : now.hub ≡ was.hub
   pub chapter : now.chapter ≡ was.chapter
@@ -96,10 +78,9 @@ Stays None now = now ≡ None
 Stays (Some was) None = ⊥
 Stays (Some was) (Some now) = StaysIn was now
 
--- a piece of a legal journal's text is read, and all pieces in order are the text
-pub record ReadsPiece (was : Option Session) (journal : Option JournalView) (number : ℕ) (now : Option Session)
-    (place filled : List ℕ) (told : PieceC) : Type 0 where
-  pub reads : Reads (piece_in journal number) place filled told
+-- pieces of a text are read from this number on; if it is a journal's, that is legal, and all pieces in order are the text
+pub record ReadsText (t : Text) (was : Option Session) (number : ℕ) (now : Option Session) (place filled : List ℕ) (told : PieceC) : Type 0 where
+  pub reads : Reads (drop number (option_map_or (pieces_of t) was [])) place filled told
   pub stays : Stays was now
   pub whole : AreText
-  pub lawful : IfSome journal IsLegalJournal
+  pub lawful : IfSome (option_and_then (journal_of_text t) was) IsLegalJournal

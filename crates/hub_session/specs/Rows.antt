@@ -1,18 +1,17 @@
 -- Worked rows: what structs say, what is told, and the pieces of a text. The numbers are those of capi/chanhub.h.
-use Rattle.std.specs.Prelude.{◌≡◌, true, false, [], ◌∷◌, replicate, None, Some, Ok, Err, refl}
+use Rattle.std.specs.Prelude.{◌≡◌, true, false, [], ◌∷◌, drop, take, replicate, None, Some, Ok, Err, refl}
 use Rattle.hub_base.specs.declared.event.Outcome.TheVariants.{Drained}
 use Rattle.hub_base.specs.declared.fault.Fault.TheVariants.{Busy}
 use Rattle.hub_base.specs.declared.head.Edition.TheVariants.{Three}
 use Rattle.hub_base.specs.Journal.{JournalView}
 use Rattle.hub_base.specs.Lines.{line}
 use Rattle.hub_base.specs.Notation.{cancel, case, close, exit, faulted, made, make, procs_two, r, recv, s, select, told}
-use Rattle.hub_base.specs.Reading.{head_lines}
 use Rattle.hub_base.specs.declared.event.What.TheVariants as what
 use Rattle.hub_session.specs.declared.structs.CaseC.{CaseC}
 use Rattle.hub_session.specs.declared.structs.ToldC.{ToldC}
 use Rattle.hub_session.specs.declared.structs.ValueC.{ValueC}
 use Rattle.hub_session.specs.Opens.{edition_of}
-use Rattle.hub_session.specs.Pieces.{piece_in, piece_told, put_piece}
+use Rattle.hub_session.specs.Pieces.{joined, none_told, pieces, wants_told}
 use Rattle.hub_session.specs.Structs.{call_of, send_of}
 use Rattle.hub_session.specs.Tells.{answer_told, bad_call, bits_of, came_told, clock_told, next_told}
 
@@ -115,24 +114,18 @@ no_clock_row = refl
 abbrev ended : JournalView
 ended = record { head = procs_two 1; entries = make 0 2 ∷ exit 0 ∷ [] }
 
-pub head_row : piece_in (Some ended) 0 ≡ Some (head_lines (procs_two 1))
-head_row = refl
-
-pub line_row : piece_in (Some ended) 2 ≡ Some (line (exit 0))
+pub line_row : drop 2 (pieces ended) ≡ line (exit 0) ∷ []
 line_row = refl
 
-pub behind_row : piece_in (Some ended) 3 ≡ None
+pub behind_row : drop 3 (pieces ended) ≡ []
 behind_row = refl
 
--- the end, a piece that is written, and one that wants more room are three answers
-pub end_row : piece_told None 9 ≡ record { what = 0; length = 0 }
+pub joined_row : joined (take 2 ((7 ∷ 8 ∷ []) ∷ (9 ∷ []) ∷ (4 ∷ []) ∷ [])) ≡ 7 ∷ 8 ∷ 9 ∷ []
+joined_row = refl
+
+-- the end, and a piece that wants more room, are two answers
+pub end_row : none_told ≡ record { what = 0; count = 0; length = 0 }
 end_row = refl
 
-pub written_row : piece_told (Some (7 ∷ 8 ∷ [])) 2 ≡ record { what = 1; length = 2 }
-written_row = refl
-
-pub no_room_row : piece_told (Some (7 ∷ 8 ∷ [])) 1 ≡ record { what = 2; length = 2 }
+pub no_room_row : wants_told (7 ∷ 8 ∷ []) ≡ record { what = 2; count = 0; length = 2 }
 no_room_row = refl
-
-pub put_row : put_piece (Some (7 ∷ 8 ∷ [])) (1 ∷ 2 ∷ 3 ∷ []) ≡ 7 ∷ 8 ∷ 3 ∷ []
-put_row = refl

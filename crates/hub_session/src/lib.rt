@@ -14,11 +14,12 @@ mod session;
 mod stepping;
 mod structs;
 mod telling;
+mod text;
 
 pub use asking::is_true;
 pub use hold::HubC;
 pub use opening::{open_box, open_endless_box, open_following_box};
-pub use reading::no_piece;
 pub use session::{Opened, Session};
 pub use structs::{CaseC, CountsC, CutC, FollowC, NO_CLOCK, NextC, PieceC, ToldC, ValueC};
 pub use telling::{counts_told, next_told, tell_bad_call};
+pub use text::{Text, no_piece};

@@ -66,7 +66,7 @@ pub const NO_CLOCK: u8 = MOST_PROCS as u8;
 
 /// There is no such piece of a text: the last one stands before it.
 pub const NO_PIECE: u8 = 0;
-/// The piece was written.
+/// The piece was written, perhaps with some behind it.
 pub const WRITTEN: u8 = 1;
 /// The piece is longer than the place for it.
 pub const NO_ROOM: u8 = 2;
@@ -135,12 +135,14 @@ pub struct CountsC {
     pub received: u64,
 }
 
-/// What a reading of a piece of a text came to.
+/// What a reading of pieces of a text came to.
 #[repr(C)]
 #[derive(Clone, Copy)]
 pub struct PieceC {
     /// `NO_PIECE`, `WRITTEN`, `NO_ROOM` or `NO_MEMORY`.
     pub what: u8,
+    /// How many pieces were written, from the one that was asked for on.
+    pub count: u32,
     /// How many bytes were written, or how many there has to be room for; else 0.
     pub length: u64,
 }

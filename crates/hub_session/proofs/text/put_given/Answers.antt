@@ -1,0 +1,18 @@
+use Rattle.std.proofs.Common.{◌∙◌, refl}
+use Rattle.hub_session.proofs.Fitting.{fits_at}
+use Rattle.hub_session.proofs.Texts.{put_there}
+use Rattle.hub_session.proofs.text.put_given.Goals as goal
+
+pub put_head_or_line-requires : goal.put_head_or_line-requires
+put_head_or_line-requires c =
+    let hub = c.args.hub.now in
+    record {
+      fits = rw (c.by_slice.ensures, c.given-entry.ensures.entry, c.head.ensures, c.locked.ensures)
+          (fits_at hub.locked.hub.terms.head.edition hub.given c.place_of.result c.given-entry.ensures.fits);
+    }
+
+pub returns-clause-ok : goal.returns-clause-ok
+returns-clause-ok c =
+    let hub = c.args.hub.now in
+    put_there c.put_head_or_line.result c.args.out.now.items c.put_head_or_line.new.out.items (record { head = hub.locked.hub.terms.head; entries = hub.given }) c.head.result c.by_slice.result c.place_of.result c.args.number _
+    (rw (c.head.ensures, c.locked.ensures) refl) (c.by_slice.ensures ∙ c.given-entry.ensures.entry) c.place_of.ensures refl c.put_head_or_line.ensures.ok

@@ -4,10 +4,14 @@
  * block, but no longer once one of that size was freed, and then its realloc copies what was reserved. It also keeps what is freed for
  * each thread. A hub that never ends frees as much as it allocates, so it would hold ten times the memory that it needs; and half as
  * much again, which grows slowly, if blocks were malloc's as long as they have less than 128 KB.
+ *
+ * At each cut a hub makes the buffers of all its ports anew, and frees those of a chapter before. So a few blocks that are freed are kept
+ * for the next ones of their size, since each would cost two calls of the system, and its pages.
  */
 #define _GNU_SOURCE /* for mremap */
 #include "heap.h"
 
+#include <stdatomic.h>
 #include <stdbool.h>
 #include <stdint.h>
 #include <stdlib.h>
@@ -20,6 +24,21 @@ struct head {
 };
 
 static const size_t LARGE = 16 * 1024, MOST = PTRDIFF_MAX - sizeof(struct head);
+
+/* The blocks that are kept: one for each port of the largest hub, 4 MB at most. Of all the threads one at a time has them, and any other
+ * does without: so nobody waits, also not a process that was forked meanwhile. */
+static const size_t MOST_KEPT = 64 * 1024;
+static struct head *kept[64];
+static unsigned next_kept;
+static atomic_flag kept_is_taken = ATOMIC_FLAG_INIT;
+
+static bool takes_kept(void) {
+    return !atomic_flag_test_and_set_explicit(&kept_is_taken, memory_order_acquire);
+}
+
+static void leave_kept(void) {
+    atomic_flag_clear_explicit(&kept_is_taken, memory_order_release);
+}
 
 static struct head *head_of(void *at) {
     return (struct head *)at - 1;
@@ -37,11 +56,43 @@ static struct head *mapped(void *at) {
     return at == MAP_FAILED ? NULL : at;
 }
 
+/* A block of this size that was kept. NULL where there is none. */
+static struct head *kept_of(size_t size) {
+    if (size > MOST_KEPT || !takes_kept()) return NULL;
+    struct head *found = NULL;
+    for (size_t i = 0; i < sizeof kept / sizeof *kept && !found; i++) {
+        if (!kept[i] || kept[i]->size != size) continue;
+        found = kept[i];
+        kept[i] = NULL;
+    }
+    leave_kept();
+    return found;
+}
+
+/* Keeps a large block that is freed, in place of the one that was kept so long. Returns the one that is not kept, NULL where both are. */
+static struct head *keep(struct head *head) {
+    if (head->size > MOST_KEPT || !takes_kept()) return head;
+    struct head *other = kept[next_kept];
+    kept[next_kept] = head;
+    next_kept = (next_kept + 1) % (sizeof kept / sizeof *kept);
+    leave_kept();
+    return other;
+}
+
+static struct head *new_large(size_t size) {
+    struct head *head = kept_of(size);
+    return head ? head : mapped(mmap(NULL, size, PROT_READ | PROT_WRITE, MAP_PRIVATE | MAP_ANONYMOUS, -1, 0));
+}
+
+static void free_large(struct head *head) {
+    struct head *other = keep(head);
+    if (other) munmap(other, other->size);
+}
+
 void *heap_alloc(size_t size) {
     if (size > MOST) return NULL;
     size += sizeof(struct head);
-    if (size < LARGE) return block_of(malloc(size), size);
-    return block_of(mapped(mmap(NULL, size, PROT_READ | PROT_WRITE, MAP_PRIVATE | MAP_ANONYMOUS, -1, 0)), size);
+    return block_of(size < LARGE ? malloc(size) : new_large(size), size);
 }
 
 /* A block of another kind, large or not, with what this one holds. NULL where memory is refused, and then this one stays. */
@@ -68,7 +119,7 @@ void heap_free(void *at) {
     if (!at) return;
     struct head *head = head_of(at);
     if (head->size < LARGE) free(head);
-    else munmap(head, head->size);
+    else free_large(head);
 }
 
 #ifndef __x86_64__

@@ -65,6 +65,17 @@ static bool change(struct block *b) {
     return true;
 }
 
+/* How many blocks get new pages if one of this size is freed and so many are allocated. */
+static unsigned mapped_after_one(size_t size, unsigned count) {
+    void *all[BLOCKS];
+    heap_free(heap_alloc(size));
+    unsigned before = mapped;
+    for (unsigned i = 0; i < count; i++) all[i] = heap_alloc(size);
+    unsigned after = mapped;
+    for (unsigned i = 0; i < count; i++) heap_free(all[i]);
+    return after - before;
+}
+
 int main(void) {
     static struct block blocks[BLOCKS];
     unsigned others = 0;
@@ -80,6 +91,9 @@ int main(void) {
     for (unsigned i = 0; i < BLOCKS; i++) heap_free(blocks[i].at);
     is("blocks that are not as they were", others, 0);
     is("blocks with pages of their own", mapped > ROUNDS / 20, 1);
+    is("a block that is freed is the next of its size", mapped_after_one(3 * LARGE + 1, 3), 2);
+    is("and so is each of several", mapped_after_one(3 * LARGE + 1, 3), 0);
+    is("but no very large one", mapped_after_one(5 * LARGE, 1), 1);
     is("no size is too great to be refused", !heap_alloc(SIZE_MAX) && !heap_alloc(SIZE_MAX - 15) && !heap_alloc(PTRDIFF_MAX), 1);
     void *at = heap_realloc(NULL, 10);
     is("a block anew", at != NULL, 1);

@@ -3,8 +3,8 @@ use Rattle.hub_laws.proofs.Prelude.{◌≡◌, Bool, true, false, List, [], ◌�
 use Rattle.hub_laws.proofs.Prelude.{Some, None, ℕ, ◌+◌, ◌≤◌, ◌<◌, arith, length}
 use Rattle.hub_laws.proofs.Prelude.{append_assoc, append-nil, option_map, option_map_or, ◌-◌, ◌==◌, nat_lt, inr, inl, slice_get_past}
 use Rattle.hub_laws.proofs.Prelude.{Entry, Event, Fault, Head, Pid, Port, Channel, State, state, moves, refusal, steps_of, channel_at}
-use Rattle.hub_laws.proofs.Prelude.{Step, is_exit, one_step, cond, not, ◌&&◌}
-use Rattle.std.specs.Prelude.{min, ◌^◌, slice_index, Result, Ok, Err, OnOk}
+use Rattle.hub_laws.proofs.Prelude.{Step, is_exit, one_step, cond, not, ◌&&◌, ◌||◌, nat_le}
+use Rattle.std.specs.Prelude.{max, min, ◌*◌, ◌^◌, slice_index, Result, Ok, Err, OnOk}
 use Rattle.hub_base.specs.declared.fault.Fault.TheVariants as fault
 use Rattle.hub_base.specs.declared.limits.TheConstants.{MOST_STEPS, MOST_PORTS}
 use Rattle.hub_base.specs.Journal.{JournalView}
@@ -29,25 +29,37 @@ use Rattle.hub_chapters.proofs.Steps.{refusal-like}
 use Rattle.hub_chapters.proofs.Checkpoints.{checkpoint-law}
 use Rattle.hub_chapters.proofs.Chapters.{last-alike, chapters-law}
 use Rattle.hub_chapters.proofs.Counts.{carried-law}
-use Rattle.hub_cut.specs.declared.limits.TheConstants.{CHAPTER_BYTES, MOST_LINE_BYTES}
+use Rattle.hub_cut.specs.declared.limits.TheConstants.{CHAPTER_BYTES, MOST_KEEP, MOST_LINE_BYTES}
 use Rattle.hub_cut.specs.declared.recorder.Recorder.TheInside.{Inside}
 use Rattle.hub_cut.specs.RecorderKeeps.{RecorderKeeps, shown}
 use Rattle.hub_cut.specs.ChapterText.{most_line, counted, counted_in}
 use Rattle.hub_cut.specs.Cut.{CutsAndSteps, IsCut, Refused}
 use Rattle.hub_cut.specs.Totals.{in_64_bits, totals_of, totals_at, with_base}
 use Rattle.hub_cut.specs.Recorder.{IsRecorder, IsShort, RecorderView, Records, RecordsStep, RefusesStep, head_of_all, is_full}
-use Rattle.hub_cut.specs.Recorder.{since_cut, with_next, hub_in, IsKeep, is_full_at, chapter_out, begins, out_or}
+use Rattle.hub_cut.specs.Recorder.{last_checkpoint, least_of, since_cut, with_next, hub_in, IsKeep, is_full_at, chapter_out, begins, out_or}
 use Rattle.hub_cut.proofs.ChapterTexts.{checkpoint-no_start, counted_in-append, counts_longer, starts-append}
 use Rattle.hub_cut.proofs.Parts.{steps-append}
 
 -- The last chapter, and the history
 
--- it has no more steps than a checkpoint can have, and what came behind that
-pub chapter_few : (h : Head) (chapters : Chapters) → steps_of (last_chapter h chapters) ≤ most_steps h + steps_of (since_cut chapters)
-chapter_few h (First es) = omega arith
-chapter_few h (Cut chapters later) =
-    let checkpoint : List Entry = checkpoint (state h (last_chapter h chapters)) in
-    omega (arith, steps-append checkpoint later, (checkpoint-law h (last_chapter h chapters)).few_steps)
+-- it has the steps of its checkpoint, and what came behind that
+chapter_steps : (h : Head) (chapters : Chapters) → steps_of (last_chapter h chapters) ≡ steps_of (last_checkpoint h chapters) + steps_of (since_cut chapters)
+chapter_steps h (First es) = omega arith
+chapter_steps h (Cut chapters later) = steps-append (checkpoint (state h (last_chapter h chapters))) later
+
+checkpoint_few : (h : Head) (chapters : Chapters) → steps_of (last_checkpoint h chapters) ≤ most_steps h
+checkpoint_few h (First es) = omega arith
+checkpoint_few h (Cut chapters later) = (checkpoint-law h (last_chapter h chapters)).few_steps
+
+pub recorder_checkpoint : (r : RecorderView) → IsRecorder r → r.checkpoint ≤ most_steps (head_of_all r)
+recorder_checkpoint r (chapters, so) = omega (arith, so.checkpoint, checkpoint_few (head_of_all r) chapters)
+
+-- how many steps a chapter may have behind its checkpoint
+least_kept : (keep checkpoint : ℕ) → keep ≤ least_of keep checkpoint
+least_kept keep checkpoint = grind arith
+
+least_within : (keep checkpoint most : ℕ) → keep ≤ most → 2 * checkpoint ≤ most → least_of keep checkpoint ≤ most
+least_within keep checkpoint most a b = grind arith
 
 -- its starts all came behind that
 chapter_starts : (h : Head) (chapters : Chapters) → length (all_starts (last_chapter h chapters)) ≤ steps_of (since_cut chapters)
@@ -64,6 +76,11 @@ last_legal h (Cut chapters later) legal = legal.1
 pub recorder_legal : (r : RecorderView) → IsRecorder r → IsLegal (head_of_all r) r.hub.journal
 recorder_legal r (chapters, so) = subst (IsLegal (head_of_all r)) (sym so.present) (last_legal (head_of_all r) chapters so.legal)
 
+pub recorder_fresh : (r : RecorderView) → IsHead (head_of_all r) → IsKeep r.keep → IsRecorder r → r.fresh ≤ MOST_KEEP
+recorder_fresh r head keep (chapters, so) =
+    let few = recorder_checkpoint r (chapters, so) in
+    omega (arith, so.few, least_within r.keep r.checkpoint MOST_KEEP keep.1 (omega (arith, few, head.1)))
+
 pub recorder_short : (r : RecorderView) → IsRecorder r → AreOf (head_of_all r).edition r.hub.journal → IsShort r
 recorder_short r (chapters, so) fits =
     let h : Head = head_of_all r in
@@ -72,7 +89,8 @@ recorder_short r (chapters, so) fits =
     let exits : length r.hub.journal ≤ steps_of r.hub.journal + h.procs + length (all_starts r.hub.journal) =
     subst (λ (j : List Entry). length j ≤ steps_of j + h.procs + length (all_starts j)) legal law.length in
     record {
-      few = omega (arith, exits, ap steps_of so.present, chapter_few h chapters, so.fresh, so.few);
+      checkpoint = recorder_checkpoint r (chapters, so);
+      few = omega (arith, exits, ap steps_of so.present, chapter_steps h chapters, so.checkpoint, so.fresh, so.few);
       starts = omega (arith, ap (λ (j : List Entry). length (all_starts j)) so.present, chapter_starts h chapters, so.fresh, so.few);
       none = λ old. subst (λ (j : List Entry). all_starts j ≡ []) legal (law.none old fits);
     }
@@ -106,6 +124,7 @@ with_fresh r e =
       hub = with_entry e r.hub;
       before = r.before;
       keep = r.keep;
+      checkpoint = r.checkpoint;
       fresh = r.fresh + one_step e;
       bytes = r.bytes + counted e;
       early = r.early;
@@ -118,12 +137,13 @@ one_more n es e is = omega (arith, is, steps-append es (e ∷ []))
 more_bytes : (n : ℕ) (es : List Entry) (e : Entry) → n ≡ counted_in es → n + counted e ≡ counted_in (es ++ e ∷ [])
 more_bytes n es e is = omega (arith, is, counted_in-append es (e ∷ []))
 
-below_keep : (keep fresh bytes : ℕ) → is_full_at keep fresh bytes ≡ false → (fresh < keep) × (bytes < CHAPTER_BYTES)
-below_keep keep fresh bytes h = (grind arith, grind arith)
+below_least : (least fresh bytes : ℕ) → (nat_le least fresh || nat_le CHAPTER_BYTES bytes) ≡ false → (fresh < least) × (bytes < CHAPTER_BYTES)
+below_least least fresh bytes h = (grind arith, grind arith)
 
 -- a step that begins no chapter, and is no exit, finds room
-pub room_of : (r : RecorderView) (step : Step) → begins r step ≡ false → is_exit step ≡ false → (r.fresh < r.keep) × (r.bytes < CHAPTER_BYTES)
-room_of r step none is = below_keep r.keep r.fresh r.bytes (subst (λ b. (not b && is_full r) ≡ false) is none)
+pub room_of : (r : RecorderView) (step : Step) → begins r step ≡ false → is_exit step ≡ false →
+    (r.fresh < least_of r.keep r.checkpoint) × (r.bytes < CHAPTER_BYTES)
+room_of r step none is = below_least (least_of r.keep r.checkpoint) r.fresh r.bytes (subst (λ b. (not b && is_full r) ≡ false) is none)
 
 no_exit : (b full : Bool) → (not b && full) ≡ true → (b ≡ false) × (full ≡ true)
 no_exit true full is = absurd (let g : ⊥ = cc in g)
@@ -161,9 +181,10 @@ records_next (First es) r e so admitted room =
       legal = (begins-law h es []).goes_on e so.legal (subst (λ j. refusal (state h j) e.pid ≡ None) so.present admitted);
       present = ap (λ j. j ++ e ∷ []) so.present;
       before = so.before;
+      checkpoint = so.checkpoint;
       fresh = one_more r.fresh es e so.fresh;
       bytes = more_bytes r.bytes es e so.bytes;
-      few = within (is_exit e.step) r.fresh r.keep so.few (λ exit. (room_of r e.step room exit).0);
+      few = within (is_exit e.step) r.fresh (least_of r.keep r.checkpoint) so.few (λ exit. (room_of r e.step room exit).0);
       full = λ waited. tt;
       bases = so.bases;
     }
@@ -178,9 +199,10 @@ records_next (Cut chapters later) r e so admitted room =
       );
       present = ap (λ j. j ++ e ∷ []) so.present ∙ append_assoc first later (e ∷ []);
       before = so.before;
+      checkpoint = so.checkpoint;
       fresh = one_more r.fresh later e so.fresh;
       bytes = more_bytes r.bytes later e so.bytes;
-      few = within (is_exit e.step) r.fresh r.keep so.few (λ exit. (room_of r e.step room exit).0);
+      few = within (is_exit e.step) r.fresh (least_of r.keep r.checkpoint) so.few (λ exit. (room_of r e.step room exit).0);
       full = so.full;
       bases = so.bases;
     }
@@ -193,6 +215,7 @@ pub records_counted : (chapters : Chapters) (r : RecorderView) (e : Entry) (new 
       hub = new;
       before = r.before;
       keep = r.keep;
+      checkpoint = r.checkpoint;
       fresh = fresh;
       bytes = bytes;
       early = r.early;
@@ -217,6 +240,7 @@ pub goes_next : (r : RecorderView) (e : Entry) (told : List Event) (new : HubVie
       hub = new;
       before = r.before;
       keep = r.keep;
+      checkpoint = r.checkpoint;
       fresh = fresh;
       bytes = bytes;
       early = r.early;
@@ -245,11 +269,11 @@ few_counted e l long few = by (is_exit e.step)
 
 -- what a recorder keeps, with such an entry more
 pub keeps_next : (r : Inside) (e : Entry) (hub : ShortInMemory) (told : List Event) (fresh bytes : ℕ) (edition : Edition) → RecorderKeeps r
-    → begins (shown r) e.step ≡ false → Steps (hub_in r.hub) e (hub_in hub) told → fresh ≡ r.fresh + one_step e → bytes ≡ r.bytes + counted e
+    → begins (shown r) e.step ≡ false → Steps (hub_in r.present.hub) e (hub_in hub) told → fresh ≡ r.fresh + one_step e → bytes ≡ r.bytes + counted e
     → Fits edition e → counted e ≤ MOST_LINE_BYTES
     → RecorderKeeps (record {
       alloc = r.alloc;
-      hub = hub;
+      present = record { hub = hub; checkpoint = r.present.checkpoint };
       before = r.before;
       keep = r.keep;
       fresh = fresh;
@@ -267,7 +291,7 @@ keeps_next r e hub told fresh bytes edition k room s steps more fits few =
         with_next false k.recorder.0 e,
         records_counted k.recorder.0 (shown r) e (hub_in hub) fresh bytes k.recorder.1 s.admitted room s.journal steps more,
       );
-      lines = rw (ap (λ (h : HubView). h.journal) s.journal, more) (counts_longer (hub_in r.hub).journal e edition r.bytes fits k.lines);
+      lines = rw (ap (λ (h : HubView). h.journal) s.journal, more) (counts_longer (hub_in r.present.hub).journal e edition r.bytes fits k.lines);
       bytes = rw more (bytes_below (shown r) e (counted e) MOST_LINE_BYTES refl few k.bytes room);
       text_before = k.text_before;
     }
@@ -277,11 +301,24 @@ keeps_next r e hub told fresh bytes edition k room s steps more fits few =
 saturated : (a b x y top : ℕ) → x ≡ min a top → y ≡ min (x + b) top → y ≡ min (a + b) top
 saturated a b x y top e f = grind (arith, e, f)
 
-pub records_cut : (chapters : Chapters) (r : RecorderView) (e : Entry) (new : HubView) (told : List Event) (bases : List ℕ) → Records chapters r →
-    begins r e.step ≡ true → 1 ≤ r.keep → CutsAndSteps r.hub e new told →
+-- the recorder once it is cut, with so much behind the checkpoint
+abbrev after_cut : RecorderView → HubView → ℕ → ℕ → ℕ → Bool → List ℕ → RecorderView
+after_cut r new checkpoint fresh bytes early bases = record {
+  hub = new;
+  before = Some r.hub;
+  keep = r.keep;
+  checkpoint = checkpoint;
+  fresh = fresh;
+  bytes = bytes;
+  early = early;
+  bases = bases;
+}
+
+pub records_cut : (chapters : Chapters) (r : RecorderView) (e : Entry) (new : HubView) (count : ℕ) (told : List Event) (bases : List ℕ) →
+    Records chapters r → begins r e.step ≡ true → 1 ≤ r.keep → CutsAndSteps r.hub e new told → count ≡ steps_of (checkpoint (state_of r.hub)) →
     ((p : Port) → p.0 ≤ MOST_PORTS → slice_index bases p.0 ≡ in_64_bits (slice_index r.bases p.0 + received_count (state_of r.hub) p)) →
-    Records (Cut chapters (e ∷ [])) (record { hub = new; before = Some r.hub; keep = r.keep; fresh = 1; bytes = most_line e; early = false; bases = bases })
-records_cut chapters r e new told bases so step some s added =
+    Records (Cut chapters (e ∷ [])) (after_cut r new count 1 (most_line e) false bases)
+records_cut chapters r e new count told bases so step some s counted added =
     let h : Head = head_of_all r in
     let first : List Entry = checkpoint (state_of r.hub) in
     let same : first ≡ checkpoint (state h (last_chapter h chapters)) = ap (λ j. checkpoint (state h j)) so.present in
@@ -297,27 +334,28 @@ records_cut chapters r e new told bases so step some s added =
       legal = (so.legal, subst (λ j. IsLegal h (j ++ e ∷ [])) same legal);
       present = s.journal ∙ ap (λ j. j ++ e ∷ []) same;
       before = ap (λ j. Some (let j : JournalView = record { head = h; entries = j } in j)) so.present;
+      checkpoint = counted ∙ ap steps_of same;
       fresh = sym one;
       bytes = sym weight;
-      few = some;
-      full = λ waited. rw (← so.fresh, ← so.bytes) full.1;
+      few = omega (arith, some, least_kept r.keep count);
+      full = λ waited. rw (← so.checkpoint, ← so.fresh, ← so.bytes) full.1;
       bases = λ p few. saturated (base_count h chapters p) (received_count (state h (last_chapter h chapters)) p) (slice_index r.bases p.0)
           (slice_index bases p.0) (2 ^ 64 - 1) (so.bases p few)
           (added p few ∙ ap (λ j. in_64_bits (slice_index r.bases p.0 + received_count (state h j) p)) so.present);
     })
 
-pub goes_cut : (r : RecorderView) (e : Entry) (new : HubView) (told : List Event) (bases : List ℕ) → begins r e.step ≡ true → 1 ≤ r.keep →
-    CutsAndSteps r.hub e new told →
+pub goes_cut : (r : RecorderView) (e : Entry) (new : HubView) (count : ℕ) (told : List Event) (bases : List ℕ) → begins r e.step ≡ true → 1 ≤ r.keep →
+    CutsAndSteps r.hub e new told → count ≡ steps_of (checkpoint (state_of r.hub)) →
     ((p : Port) → p.0 ≤ MOST_PORTS → slice_index bases p.0 ≡ in_64_bits (slice_index r.bases p.0 + received_count (state_of r.hub) p)) →
-    RecordsStep r e (record { hub = new; before = Some r.hub; keep = r.keep; fresh = 1; bytes = most_line e; early = false; bases = bases }) told
-goes_cut r e new told bases full some s added =
+    RecordsStep r e (after_cut r new count 1 (most_line e) false bases) told
+goes_cut r e new count told bases full some s counted added =
     let h : Head = head_of_all r in
     record {
       goes_on = λ chapters so. record {
         admitted = sym (refused_alike h chapters r.hub.journal e.pid so.present) ∙ s.admitted;
         events = s.events ∙ told_alike h chapters r.hub.journal e so.present;
         history = history_next (begins r e.step) chapters e;
-        records = rw full (records_cut chapters r e new told bases so full some s added);
+        records = rw full (records_cut chapters r e new count told bases so full some s counted added);
       };
       terms = s.terms;
       keep = refl;
@@ -326,10 +364,11 @@ goes_cut r e new told bases full some s added =
 
 -- A cut that is asked for
 
-pub records_early : (chapters : Chapters) (r : RecorderView) (new : HubView) (bases : List ℕ) → Records chapters r → IsCut r.hub new →
+pub records_early : (chapters : Chapters) (r : RecorderView) (new : HubView) (count : ℕ) (bases : List ℕ) → Records chapters r → IsCut r.hub new →
+    count ≡ steps_of (checkpoint (state_of r.hub)) →
     ((p : Port) → p.0 ≤ MOST_PORTS → slice_index bases p.0 ≡ in_64_bits (slice_index r.bases p.0 + received_count (state_of r.hub) p)) →
-    Records (Cut chapters []) (record { hub = new; before = Some r.hub; keep = r.keep; fresh = 0; bytes = 0; early = true; bases = bases })
-records_early chapters r new bases so cut added =
+    Records (Cut chapters []) (after_cut r new count 0 0 true bases)
+records_early chapters r new count bases so cut counted added =
     let h : Head = head_of_all r in
     let first : List Entry = checkpoint (state_of r.hub) in
     let same : first ≡ checkpoint (state h (last_chapter h chapters)) = ap (λ j. checkpoint (state h j)) so.present in
@@ -339,6 +378,7 @@ records_early chapters r new bases so cut added =
       legal = (so.legal, subst (λ j. IsLegal h (j ++ [])) same legal);
       present = ap (λ (x : HubView). x.journal) cut.hub ∙ same ∙ sym (append-nil (checkpoint (state h (last_chapter h chapters))));
       before = ap (λ j. Some (let j : JournalView = record { head = h; entries = j } in j)) so.present;
+      checkpoint = counted ∙ ap steps_of same;
       fresh = refl;
       bytes = refl;
       few = omega arith;
@@ -383,9 +423,22 @@ refuses_next r e fault.NoProcess head limit keep room h = λ chapters so. sym (r
 refuses_next r e fault.Gone head limit keep room h = λ chapters so. sym (refused_alike (head_of_all r) chapters r.hub.journal e.pid so.present) ∙ h.1
 refuses_next r e fault.Busy head limit keep room h = λ chapters so. sym (refused_alike (head_of_all r) chapters r.hub.journal e.pid so.present) ∙ h.1
 refuses_next r e fault.JournalFull head limit keep room h = λ chapters so.
-    let few : steps_of r.hub.journal ≤ most_steps (head_of_all r) + steps_of (since_cut chapters) =
-    subst (λ j. steps_of j ≤ most_steps (head_of_all r) + steps_of (since_cut chapters)) (sym so.present) (chapter_few (head_of_all r) chapters) in
-    absurd (omega (arith, h.1, limit, few, so.fresh, (room_of r e.step room h.0).0, keep.1, head.1))
+    let few = recorder_checkpoint r (chapters, so) in
+    let least : least_of r.keep r.checkpoint ≤ MOST_KEEP =
+    least_within r.keep r.checkpoint MOST_KEEP keep.1 (omega (arith, few, head.1)) in
+    absurd (omega (
+      arith,
+      h.1,
+      limit,
+      few,
+      ap steps_of so.present,
+      chapter_steps (head_of_all r) chapters,
+      so.checkpoint,
+      so.fresh,
+      (room_of r e.step room h.0).0,
+      least,
+      head.1,
+    ))
 refuses_next r e fault.NoMemory head limit keep room h = λ chapters so.
     (sym (refused_alike (head_of_all r) chapters r.hub.journal e.pid so.present) ∙ h.1, inr h.2)
 refuses_next r e fault.TooManyCases head limit keep room h = absurd h

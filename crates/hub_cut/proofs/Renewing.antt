@@ -1,42 +1,91 @@
--- A checkpoint whose steps are made part by part in a hub.
-use Rattle.hub_laws.proofs.Prelude.{◌≡◌, Bool, true, false, List, [], ◌∷◌, ◌++◌, refl, ap, ◌∙◌, sym, subst, None, ℕ, zero, suc, ◌+◌, ◌≤◌, ◌<◌, arith}
-use Rattle.hub_laws.proofs.Prelude.{length, take, drop, map, append_assoc, append-nil, get_or, and_parts, cond, is_exit, one_step, steps_of, refusal, state}
-use Rattle.hub_laws.proofs.Prelude.{Entry, Event, Head, Channel, State}
+-- A checkpoint whose steps are made in a hub as they are found.
+use Rattle.hub_laws.proofs.Prelude.{◌≡◌, Bool, true, false, List, [], ◌∷◌, ◌++◌, refl, ap, ◌∙◌, sym, subst, None, ℕ, zero, suc, ◌+◌, ◌-◌, ◌≤◌, ◌<◌, arith}
+use Rattle.hub_laws.proofs.Prelude.{length, drop, map, append_assoc, append-nil, length-append, and_parts, cond, is_exit, one_step, steps_of, refusal, state}
+use Rattle.hub_laws.proofs.Prelude.{Option, Some, option_map, option_map_or, take, filter, Entry, Event, Head, Channel, OpenCall, Value, State, Port, channel_at, buffer_of}
+use Rattle.std.specs.Prelude.{Err, Ok, OnOk, Result}
 use Rattle.std.specs.List.{AllByRecursion, list_all}
-use Rattle.std.proofs.lemmas.List.{take_more}
+use Rattle.std.proofs.lemmas.List.{length-drop, take_all}
 use Rattle.std.proofs.lemmas.List.Folds.{list_all-append}
+use Rattle.hub_base.specs.Entry.{Step}
+use Rattle.hub_base.specs.declared.counts.Look.{Look}
+use Rattle.hub_base.specs.declared.entry.Step.TheVariants as step
 use Rattle.hub_base.specs.Head.{AreOf, is_of}
-use Rattle.hub_base.specs.Notation.{exit}
+use Rattle.hub_base.specs.Notation.{close, exit, make}
+use Rattle.hub_base.specs.Text.{Fits}
 use Rattle.hub_laws.specs.Journals.{IsLegal}
 use Rattle.hub_laws.proofs.Journals.{begins-law}
-use Rattle.hub_core.specs.HubView.{HubView, Steps, state_of, with_entry, places_after}
-use Rattle.hub_core.specs.declared.terms.Terms.{Terms}
-use Rattle.hub_base.specs.Entry.{Step}
-use Rattle.hub_base.specs.declared.entry.Step.TheVariants as step
-use Rattle.hub_chapters.specs.Checkpoint.{call_again, checkpoint, exited, port_again, ports_again}
+use Rattle.hub_core.specs.HubView.{HasRoom, HubView, Steps, opened_hub, state_of, with_entry, places_after}
+use Rattle.hub_core.specs.Looks.{counts_of, look_at}
+use Rattle.hub_chapters.specs.Checkpoint.{call_again, checkpoint, exited, port_again, ports_again, send_again}
 use Rattle.hub_chapters.proofs.Checkpoints.{checkpoint-law}
 use Rattle.hub_chapters.proofs.Editions.{checkpoint-fits}
-use Rattle.hub_cut.specs.Cut.{CanMake, hub_with, with_entries}
-use Rattle.hub_cut.specs.Written.{port_entries}
-use Rattle.hub_cut.proofs.Parts.{checkpoint_within, parts_at, ports_more, steps-append}
+use Rattle.hub_cut.specs.Cut.{CanMake, Makes, hub_with, with_entries}
+use Rattle.hub_cut.specs.Written.{port_entries, sent_entries}
+use Rattle.hub_cut.proofs.Parts.{checkpoint_within, steps-append}
 
--- An entry of those that a hub takes
+-- A list of entries that a hub takes, in two parts
 
--- what comes before it, it, and what follows
-split_at : (xs es : List Entry) (i : ℕ) (e : Entry) → i < length es → e ≡ get_or es i e → xs ++ es ≡ (xs ++ take i es) ++ e ∷ drop (suc i) es
-split_at xs es i e below is = ap (λ ys. xs ++ ys) (parts_at es i e below is) ∙ sym (append_assoc xs (take i es) (e ∷ drop (suc i) es))
+all_parts : (h : HubView) (xs ys : List Entry) → AreOf h.terms.head.edition (xs ++ ys) →
+    AreOf h.terms.head.edition xs × AreOf h.terms.head.edition ys
+all_parts h xs ys fits =
+    let of : Entry → Bool = λ e. is_of h.terms.head.edition e.step in
+    and_parts (list_all of xs) (list_all of ys) (sym (list_all-append of xs ys) ∙ fits)
 
-pub admitted_behind_at : (h : Head) (xs es : List Entry) (i : ℕ) (e : Entry) → IsLegal h (xs ++ es) → i < length es → e ≡ get_or es i e →
-    refusal (state h (xs ++ take i es)) e.pid ≡ None
-admitted_behind_at h xs es i e legal below is =
-    (begins-law h (xs ++ take i es) (drop (suc i) es)).next e (subst (IsLegal h) (split_at xs es i e below is) legal)
+behind : (h : HubView) (xs ys : List Entry) → h.journal ++ (xs ++ ys) ≡ (h.journal ++ xs) ++ ys
+behind h xs ys = sym (append_assoc h.journal xs ys)
 
-pub room_behind_at : (xs es : List Entry) (i : ℕ) (e : Entry) (limit : ℕ) → steps_of (xs ++ es) ≤ limit → i < length es → e ≡ get_or es i e →
-    is_exit e.step ≡ false → steps_of (xs ++ take i es) < limit
-room_behind_at xs es i e limit few below is step =
-    let whole = ap steps_of (split_at xs es i e below is) ∙ steps-append (xs ++ take i es) (e ∷ drop (suc i) es) in
+pub can_first : (h : HubView) (xs ys : List Entry) → CanMake h (xs ++ ys) → CanMake h xs
+can_first h xs ys can = record {
+  fits = (all_parts h xs ys can.fits).0;
+  legal = (begins-law h.terms.head (h.journal ++ xs) ys).legal (subst (IsLegal h.terms.head) (behind h xs ys) can.legal);
+  few = omega (arith, can.few, ap steps_of (behind h xs ys), steps-append (h.journal ++ xs) ys);
+  places = can.places;
+}
+
+can_next : (h : HubView) (xs ys : List Entry) → CanMake h (xs ++ ys) → CanMake (with_entries xs h) ys
+can_next h xs ys can = record {
+  fits = (all_parts h xs ys can.fits).1;
+  legal = subst (IsLegal h.terms.head) (behind h xs ys) can.legal;
+  few = subst (λ es. steps_of es ≤ h.terms.limit) (behind h xs ys) can.few;
+  places = can.places;
+}
+
+-- once the first part is made, it takes the next
+pub can_then : (h after : HubView) (xs ys : List Entry) → CanMake h (xs ++ ys) → Makes h xs after → CanMake after ys
+can_then h after xs ys can m = subst (λ x. CanMake x ys) (sym m.made) (can_next h xs ys can)
+
+all_joined : {A : Type 0} (P : A → Type 0) (xs ys : List A) → AllByRecursion P xs → AllByRecursion P ys → AllByRecursion P (xs ++ ys)
+all_joined P [] ys a b = b
+all_joined P (x ∷ xs) ys a b = (a.0, all_joined P xs ys a.1 b)
+
+pub made_both : (a b c : HubView) (xs ys : List Entry) → Makes a xs b → Makes b ys c → Makes a (xs ++ ys) c
+made_both a b c xs ys m n =
+    let terms = ap (λ (h : HubView). h.terms) m.made in
+    let fit : AllByRecursion (Fits a.terms.head.edition) ys = rw terms at n.fit in
+    record {
+      made = n.made ∙ ap (with_entries ys) m.made ∙ ap (λ es. hub_with a.terms es a.places) (append_assoc a.journal xs ys);
+      fit = all_joined (Fits a.terms.head.edition) xs ys m.fit fit;
+    }
+
+pub made_none : (h : HubView) → Makes h [] h
+made_none h = record { made = ap (λ es. hub_with h.terms es h.places) (sym (append-nil h.journal)); fit = tt }
+
+-- its journal is longer by them
+pub longer : (h : HubView) (es : List Entry) (new : HubView) → Makes h es new → length new.journal ≡ length h.journal + length es
+longer h es new m = ap (λ (x : HubView). length x.journal) m.made ∙ length-append h.journal es
+
+-- One entry
+
+pub one_fits : (h : HubView) (e : Entry) → CanMake h (e ∷ []) → is_of h.terms.head.edition e.step ≡ true
+one_fits h e can = (and_parts (is_of h.terms.head.edition e.step) true can.fits).0
+
+pub one_room : (h : HubView) (e : Entry) → CanMake h (e ∷ []) → HasRoom h e
+one_room h e can = λ step.
     let one : one_step e ≡ 1 = ap (λ b. cond b 0 1) step in
-    omega (arith, whole, one, few)
+    omega (arith, can.few, steps-append h.journal (e ∷ []), one)
+
+pub one_admitted : (h : HubView) (e : Entry) → CanMake h (e ∷ []) → refusal (state_of h) e.pid ≡ None
+one_admitted h e can = (begins-law h.terms.head h.journal []).next e can.legal
 
 -- no step is reserved where none was
 none_reserved : (s : Step) → places_after s 0 ≡ 0
@@ -48,75 +97,121 @@ none_reserved (step.Cancel q) = refl
 none_reserved (step.Start q) = refl
 none_reserved (step.Reopen p cap) = refl
 
--- the hub after one entry more of these
-pub one_more_made : (base h after : HubView) (es : List Entry) (i : ℕ) (e : Entry) (told : List Event) → base.places ≡ 0 → i < length es → e ≡ get_or es i e →
-    h ≡ with_entries (take i es) base → Steps h e after told → after ≡ with_entries (take (i + 1) es) base
-one_more_made base h after es i e told none below is so s =
-    let next : take (i + 1) es ≡ take i es ++ e ∷ [] = take_more es i e below ∙ ap (λ x. take i es ++ x ∷ []) (sym is) in
-    s.journal
-    ∙ ap (with_entry e) so
-    ∙ rw (none, none_reserved e.step)
-    (ap (λ xs. hub_with base.terms xs 0) (append_assoc base.journal (take i es) (e ∷ []) ∙ ap (λ ys. base.journal ++ ys) (sym next)))
+pub one_made : (h new : HubView) (e : Entry) (told : List Event) → CanMake h (e ∷ []) → Fits h.terms.head.edition e → Steps h e new told → Makes h (e ∷ []) new
+one_made h new e told can fits s =
+    let none : places_after e.step h.places ≡ h.places =
+    ap (places_after e.step) can.places ∙ none_reserved e.step ∙ sym can.places in
+    record { made = s.journal ∙ ap (hub_with h.terms (h.journal ++ e ∷ [])) none; fit = (fits, tt) }
 
--- A part of the checkpoint
+-- what a success gives gives more
+pub then_ok : {E P Q : Type 0} (r : Result (Unit {0}) E) → (P → Q) → OnOk r P → OnOk r Q
+then_ok (Ok u) f p = f p
+then_ok (Err e) f p = tt
 
-pub all_joined : {A : Type 0} (P : A → Type 0) (xs ys : List A) → AllByRecursion P xs → AllByRecursion P ys → AllByRecursion P (xs ++ ys)
-all_joined P [] ys a b = b
-all_joined P (x ∷ xs) ys a b = (a.0, all_joined P xs ys a.1 b)
+-- Parts that grow one after the other
 
-can_part : (t : Terms) (base es rest whole : List Entry) → whole ≡ (base ++ es) ++ rest → AreOf t.head.edition whole → IsLegal t.head whole →
-    steps_of whole ≤ t.limit → CanMake (hub_with t base 0) es
-can_part t base es rest whole is fits legal few =
-    let of : Entry → Bool = λ e. is_of t.head.edition e.step in
-    let all : list_all of ((base ++ es) ++ rest) ≡ true = sym (ap (list_all of) is) ∙ fits in
-    let parts = and_parts (list_all of (base ++ es)) (list_all of rest) (sym (list_all-append of (base ++ es) rest) ∙ all) in
-    let inner = and_parts (list_all of base) (list_all of es) (sym (list_all-append of base es) ∙ parts.0) in
-    record {
-      fits = inner.1;
-      legal = (begins-law t.head (base ++ es) rest).legal (subst (IsLegal t.head) is legal);
-      few = omega (arith, few, ap steps_of is, steps-append (base ++ es) rest);
-      places = refl;
-    }
+-- what a hub takes it takes as long as less has grown
+can_before : (h : HubView) (part next : ℕ → List Entry) → ((n : ℕ) → part (n + 1) ≡ part n ++ next n) → (k n : ℕ) → CanMake h (part (n + k)) →
+    CanMake h (part n)
+can_before h part next more zero n can = subst (λ i. CanMake h (part i)) (let e : n + 0 ≡ n = omega arith in e) can
+can_before h part next more (suc k) n can =
+    let e : n + suc k ≡ n + 1 + k = omega arith in
+    can_first h (part n) (next n)
+    (subst (CanMake h) (more n) (can_before h part next more k (n + 1) (subst (λ i. CanMake h (part i)) e can)))
 
--- the first n ports, and the rest
-ports_split : (n m : ℕ) (cs : List Channel) → ports_again m cs ≡ ports_again m (take n cs) ++ ports_again (m + n) (drop n cs)
-ports_split zero m cs = ap (λ k. ports_again k cs) (let e : m ≡ m + 0 = omega arith in e)
-ports_split (suc n) m [] = refl
-ports_split (suc n) m (c ∷ cs) =
-    let e : m + 1 + n ≡ m + suc n = omega arith in
-    ap (λ es. port_again m c ++ es) (ports_split n (m + 1) cs ∙ ap (λ k. ports_again (m + 1) (take n cs) ++ ports_again k (drop n cs)) e)
-    ∙ sym (append_assoc (port_again m c) (ports_again (m + 1) (take n cs)) (ports_again (m + suc n) (drop n cs)))
+pub can_grow : (h now : HubView) (part next : ℕ → List Entry) → ((n : ℕ) → part (n + 1) ≡ part n ++ next n) → (n m : ℕ) → n < m →
+    CanMake h (part m) → Makes h (part n) now → CanMake now (next n)
+can_grow h now part next more n m below can made =
+    let e : m ≡ n + 1 + (m - (n + 1)) = omega (arith, below) in
+    can_then h now (part n) (next n)
+    (subst (CanMake h) (more n) (can_before h part next more (m - (n + 1)) (n + 1) (subst (λ i. CanMake h (part i)) e can))) made
 
-abbrev rest_of : State → List Entry
-rest_of s = map exit (exited s) ++ map call_again s.parked
+pub made_more : (h now new : HubView) (part next : ℕ → List Entry) → ((n : ℕ) → part (n + 1) ≡ part n ++ next n) → (n : ℕ) →
+    Makes h (part n) now → Makes now (next n) new → Makes h (part (n + 1)) new
+made_more h now new part next more n a b = subst (λ es. Makes h es new) (sym (more n)) (made_both h now new (part n) (next n) a b)
 
-checkpoint_parts : (s : State) → checkpoint s ≡ ports_again 1 s.channels ++ rest_of s
-checkpoint_parts s = append_assoc (ports_again 1 s.channels) (map exit (exited s)) (map call_again s.parked)
+-- A port
 
--- the facts of a hub's checkpoint
-pub can_rest : (hub : HubView) → AreOf hub.terms.head.edition hub.journal → IsLegal hub.terms.head hub.journal → steps_of hub.journal ≤ hub.terms.limit →
-    CanMake (hub_with hub.terms (ports_again 1 (state_of hub).channels) 0) (rest_of (state_of hub))
-can_rest hub fits legal few =
-    let s : State = state_of hub in
-    can_part hub.terms (ports_again 1 s.channels) (rest_of s) [] (checkpoint s)
-    (checkpoint_parts s ∙ sym (append-nil (ports_again 1 s.channels ++ rest_of s)))
-    (checkpoint-fits hub.terms.head hub.journal fits) (checkpoint-law hub.terms.head hub.journal).legal (checkpoint_within hub legal few)
+-- nothing was sent yet
+pub sent_none : (s : State) (p : Port) → sent_entries s p 0 ≡ []
+sent_none s p = by (channel_at s p)
+  where
+    by : (o : Option Channel) → option_map_or (λ c. map (send_again p.0) (take 0 (buffer_of c))) o [] ≡ []
+    by None = refl
+    by (Some c) = refl
 
-pub can_port : (hub : HubView) (n : ℕ) → AreOf hub.terms.head.edition hub.journal → IsLegal hub.terms.head hub.journal →
-    steps_of hub.journal ≤ hub.terms.limit →
-    CanMake (hub_with hub.terms (ports_again 1 (take n (state_of hub).channels)) 0) (port_entries (state_of hub) (record { 0 = n + 1 }))
-can_port hub n fits legal few =
-    let s : State = state_of hub in
-    let behind : List Entry = ports_again (1 + (n + 1)) (drop (n + 1) s.channels) in
-    let first : List Entry = ports_again 1 (take n s.channels) in
-    let next : List Entry = port_entries s (record { 0 = n + 1 }) in
-    can_part hub.terms first next (behind ++ rest_of s) (checkpoint s)
-    (checkpoint_parts s
-    ∙ ap (λ es. es ++ rest_of s) (ports_split (n + 1) 1 s.channels ∙ ap (λ es. es ++ behind) (ports_more n s))
-    ∙ append_assoc (first ++ next) behind (rest_of s))
-    (checkpoint-fits hub.terms.head hub.journal fits) (checkpoint-law hub.terms.head hub.journal).legal (checkpoint_within hub legal few)
+buffer_length : (c : Channel) → length (buffer_of c) ≡ length c.sent - c.received
+buffer_length c = length-drop c.received c.sent
 
--- what holds of its parts holds of all of it
-pub all_fitting : (P : Entry → Type 0) (s : State) → AllByRecursion P (ports_again 1 s.channels) → AllByRecursion P (rest_of s) →
-    AllByRecursion P (checkpoint s)
-all_fitting P s a b = subst (AllByRecursion P) (sym (checkpoint_parts s)) (all_joined P (ports_again 1 s.channels) (rest_of s) a b)
+-- what a look at the port shows makes it
+pub port_is : (s : State) (p : Port) (look : Look) → Some look ≡ look_at s p →
+    port_entries s p ≡ make 0 look.cap ∷ sent_entries s p look.counts.len ++ cond look.counts.closed (close 0 p.0 ∷ []) []
+port_is s p look there = by (channel_at s p) refl
+  where
+    by : (o : Option Channel) → channel_at s p ≡ o →
+        port_entries s p ≡ make 0 look.cap ∷ sent_entries s p look.counts.len ++ cond look.counts.closed (close 0 p.0 ∷ []) []
+    by None is = absurd (let none : Some look ≡ None = rw is at there in let x : ⊥ = cc in x)
+    by (Some c) is =
+        let shown : Some look ≡ Some (record { cap = c.cap; counts = counts_of c }) = rw is at there in
+        let same : look ≡ record { cap = c.cap; counts = counts_of c } = cc in
+        let all : take (length c.sent - c.received) (buffer_of c) ≡ buffer_of c =
+        take_all (length c.sent - c.received) (buffer_of c) (omega (arith, buffer_length c)) in
+        rw (is, same, all) refl
+
+-- The checkpoint
+
+-- a hub at which nothing has happened takes the checkpoint of one with the same terms
+pub can_checkpoint : (hub : HubView) → AreOf hub.terms.head.edition hub.journal → IsLegal hub.terms.head hub.journal → steps_of hub.journal ≤ hub.terms.limit →
+    CanMake (opened_hub hub.terms) (checkpoint (state_of hub))
+can_checkpoint hub fits legal few = record {
+  fits = checkpoint-fits hub.terms.head hub.journal fits;
+  legal = (checkpoint-law hub.terms.head hub.journal).legal;
+  few = checkpoint_within hub legal few;
+  places = refl;
+}
+
+-- How many of its steps are no exits
+
+sends_all : (n : ℕ) (vs : List Value) → steps_of (map (send_again n) vs) ≡ length (map (send_again n) vs)
+sends_all n [] = refl
+sends_all n (v ∷ vs) = omega (arith, sends_all n vs)
+
+close_all : (n : ℕ) (b : Bool) → steps_of (cond b (close 0 n ∷ []) []) ≡ length (cond b (close 0 n ∷ []) [])
+close_all n true = refl
+close_all n false = refl
+
+port_all : (n : ℕ) (c : Channel) → steps_of (port_again n c) ≡ length (port_again n c)
+port_all n c =
+    let sends : List Entry = map (send_again n) (buffer_of c) in
+    let closes : List Entry = cond c.closed (close 0 n ∷ []) [] in
+    omega (arith, steps-append sends closes, length-append sends closes, sends_all n (buffer_of c), close_all n c.closed)
+
+ports_all : (n : ℕ) (cs : List Channel) → steps_of (ports_again n cs) ≡ length (ports_again n cs)
+ports_all n [] = refl
+ports_all n (c ∷ cs) =
+    let one : List Entry = port_again n c in
+    let more : List Entry = ports_again (n + 1) cs in
+    omega (arith, steps-append one more, length-append one more, port_all n c, ports_all (n + 1) cs)
+
+exits_none : (qs : List ℕ) → steps_of (map exit qs) ≡ 0
+exits_none [] = refl
+exits_none (q ∷ qs) = omega (arith, exits_none qs)
+
+calls_all : (calls : List OpenCall) → steps_of (map call_again calls) ≡ length (map call_again calls)
+calls_all [] = refl
+calls_all (c ∷ cs) = omega (arith, calls_all cs)
+
+-- all but the exits
+pub checkpoint_count : (s : State) →
+    steps_of (checkpoint s) ≡ length (ports_again 1 s.channels) + length (map call_again s.parked)
+checkpoint_count s =
+    let ports : List Entry = ports_again 1 s.channels in
+    let exits : List Entry = map exit (exited s) in
+    omega (
+      arith,
+      steps-append (ports ++ exits) (map call_again s.parked),
+      steps-append ports exits,
+      ports_all 1 s.channels,
+      exits_none (exited s),
+      calls_all s.parked,
+    )

@@ -1,5 +1,6 @@
 -- What a cut leaves.
 use Rattle.std.specs.Prelude.{◌≡◌, ◌≤◌, ℕ, List, [], ◌∷◌, ◌++◌, None, Some}
+use Rattle.std.specs.List.{AllByRecursion}
 use Rattle.hub_base.specs.Entry.{Entry}
 use Rattle.hub_base.specs.declared.event.Event.{Event}
 use Rattle.hub_base.specs.declared.fault.Fault.{Fault}
@@ -8,7 +9,7 @@ use Rattle.hub_base.specs.Head.{AreOf}
 use Rattle.hub_base.specs.State.{State}
 use Rattle.hub_base.specs.Steps.{refusal}
 use Rattle.hub_base.specs.Runs.{moves}
-use Rattle.hub_base.specs.Text.{steps_of}
+use Rattle.hub_base.specs.Text.{Fits, steps_of}
 use Rattle.hub_laws.specs.Journals.{IsLegal}
 use Rattle.hub_core.specs.declared.terms.Terms.{Terms}
 use Rattle.hub_core.specs.HubView.{HubView, state_of}
@@ -29,6 +30,11 @@ pub record CanMake (h : HubView) (es : List Entry) : Type 0 where
   pub legal : IsLegal h.terms.head (h.journal ++ es)
   pub few : steps_of (h.journal ++ es) ≤ h.terms.limit
   pub places : h.places ≡ 0
+
+-- it has made them, and a text can have a line of each
+pub record Makes (old : HubView) (es : List Entry) (new : HubView) : Type 0 where
+  pub made : new ≡ with_entries es old
+  pub fit : AllByRecursion (Fits old.terms.head.edition) es
 
 -- a hub that goes on from the checkpoint of this one's state
 abbrev pub renewed_hub : HubView → HubView

@@ -1,5 +1,5 @@
 -- What contracts see of a recorder, which chapters it stands for, and what a step of it does.
-use Rattle.std.specs.Prelude.{◌≡◌, ◌≤◌, ◌+◌, ◌⊎◌, ℕ, Bool, true, false, not, ◌&&◌, ◌||◌, nat_le, IfSome, List, [], ◌∷◌, ◌++◌, length}
+use Rattle.std.specs.Prelude.{◌≡◌, ◌≤◌, ◌+◌, ◌*◌, ◌⊎◌, ℕ, Bool, true, false, not, ◌&&◌, ◌||◌, max, nat_le, IfSome, List, [], ◌∷◌, ◌++◌, length}
 use Rattle.std.specs.Prelude.{Option, None, Some, slice_index, if◌then◌else◌}
 use Rattle.std.specs.Option.{option_map}
 use Rattle.hub_base.specs.Entry.{Entry, Step}
@@ -19,7 +19,7 @@ use Rattle.hub_core.specs.HubView.{HubView, ShortInMemory, Grows}
 use Rattle.hub_chapters.specs.Chapters.{Chapters, last_chapter, history, AreLegal}
 use Rattle.hub_chapters.specs.Chapters.Chapters.{First, Cut}
 use Rattle.hub_chapters.specs.Carried.{base_count}
-use Rattle.hub_chapters.specs.Checkpoint.{most_steps}
+use Rattle.hub_chapters.specs.Checkpoint.{checkpoint, most_steps}
 use Rattle.hub_cut.specs.declared.limits.TheConstants.{CHAPTER_BYTES, MOST_KEEP}
 use Rattle.hub_cut.specs.ChapterText.{FitsText, counted_in}
 use Rattle.hub_cut.specs.Cut.{Refused}
@@ -31,9 +31,11 @@ pub record RecorderView : Type 0 where
   pub hub : HubView
   -- the hub as it was at the last cut, if there was one: its journal is the chapter before
   pub before : Option HubView
-  -- with so many steps behind its checkpoint, exits not counted, a chapter is full
+  -- with fewer steps behind its checkpoint, exits not counted, a chapter is full only if its text might get too long
   pub keep : ℕ
-  -- so many the present chapter has
+  -- so many steps the checkpoint has that the present chapter begins with, exits not counted
+  pub checkpoint : ℕ
+  -- and so many came behind it
   pub fresh : ℕ
   -- and so many bytes their lines have at most
   pub bytes : ℕ
@@ -61,19 +63,30 @@ abbrev pub since_cut : Chapters → List Entry
 since_cut (First es) = es
 since_cut (Cut chapters later) = later
 
+-- the checkpoint that the last chapter begins with
+abbrev pub last_checkpoint : Head → Chapters → List Entry
+last_checkpoint h (First es) = []
+last_checkpoint h (Cut chapters later) = checkpoint (state h (last_chapter h chapters))
+
 -- the journal of the chapter before the last, if there is one
 abbrev pub chapter_before : Head → Chapters → Option JournalView
 chapter_before h (First es) = None
 chapter_before h (Cut chapters later) = Some (record { head = h; entries = last_chapter h chapters })
 
+-- so many steps come behind a checkpoint of so many before the next cut. So a cut, which makes the steps of a checkpoint, is
+-- paid by the calls since the last, whatever the state
+abbrev pub least_of : ℕ → ℕ → ℕ
+least_of keep checkpoint = max keep (2 * checkpoint)
+
 -- a chapter is full with so many steps behind its checkpoint, or where its text might soon be longer than a reader takes
-abbrev pub is_full_at : ℕ → ℕ → ℕ → Bool
-is_full_at keep fresh bytes = nat_le keep fresh || nat_le CHAPTER_BYTES bytes
+abbrev pub is_full_at : ℕ → ℕ → ℕ → ℕ → Bool
+is_full_at keep checkpoint fresh bytes = nat_le (least_of keep checkpoint) fresh || nat_le CHAPTER_BYTES bytes
 
 -- where there is a chapter before the last, it was cut once it was full
-abbrev pub WasFull : ℕ → Chapters → Type 0
-WasFull keep (First es) = Unit {0}
-WasFull keep (Cut chapters later) = is_full_at keep (steps_of (since_cut chapters)) (counted_in (since_cut chapters)) ≡ true
+abbrev pub WasFull : Head → ℕ → Chapters → Type 0
+WasFull h keep (First es) = Unit {0}
+WasFull h keep (Cut chapters later) =
+    is_full_at keep (steps_of (last_checkpoint h chapters)) (steps_of (since_cut chapters)) (counted_in (since_cut chapters)) ≡ true
 
 -- the journal of a hub
 abbrev pub journal_of : HubView → JournalView
@@ -84,23 +97,26 @@ pub record Records (chapters : Chapters) (r : RecorderView) : Type 0 where
   pub legal : AreLegal (head_of_all r) chapters
   pub present : r.hub.journal ≡ last_chapter (head_of_all r) chapters
   pub before : option_map journal_of r.before ≡ chapter_before (head_of_all r) chapters
+  pub checkpoint : r.checkpoint ≡ steps_of (last_checkpoint (head_of_all r) chapters)
   pub fresh : r.fresh ≡ steps_of (since_cut chapters)
   pub bytes : r.bytes ≡ counted_in (since_cut chapters)
-  pub few : r.fresh ≤ r.keep
+  pub few : r.fresh ≤ least_of r.keep r.checkpoint
   -- so the last `keep` steps stand in these two chapters, or as many as two texts hold, unless a cut was asked for
-  pub full : r.early ≡ false → WasFull r.keep chapters
+  pub full : r.early ≡ false → WasFull (head_of_all r) r.keep chapters
   pub bases : (p : Port) → p.0 ≤ MOST_PORTS → slice_index r.bases p.0 ≡ in_64_bits (base_count (head_of_all r) chapters p)
 
 -- it stands at the end of some
 abbrev pub IsRecorder : RecorderView → Type 0
 IsRecorder r = (chapters : Chapters) × Records chapters r
 
--- the present chapter has no more steps than a checkpoint can have, and `keep`; an exit of each process; and one more for each
--- start, of which there are no more than `keep`, and none in an edition without starts
+-- the present chapter has the steps of its checkpoint, `keep` more or twice as many; an exit of each process; and one more for
+-- each start, of which none is in the checkpoint, and none in an edition without starts
 pub record IsShort (r : RecorderView) : Type 0 where
+  pub checkpoint : r.checkpoint ≤ most_steps (head_of_all r)
   pub few :
-      length r.hub.journal ≤ most_steps (head_of_all r) + (head_of_all r).procs + r.keep + length (all_starts r.hub.journal)
-  pub starts : length (all_starts r.hub.journal) ≤ r.keep
+      length r.hub.journal
+      ≤ r.checkpoint + least_of r.keep r.checkpoint + (head_of_all r).procs + length (all_starts r.hub.journal)
+  pub starts : length (all_starts r.hub.journal) ≤ least_of r.keep r.checkpoint
   pub none : has_lives (head_of_all r).edition ≡ false → all_starts r.hub.journal ≡ []
 
 -- a reader takes the texts of both
@@ -111,7 +127,7 @@ FitTexts r = FitsText r.hub × IfSome r.before FitsText
 
 -- the present chapter is full: it is cut before the next step that is no exit. So no exit asks for memory
 abbrev pub is_full : RecorderView → Bool
-is_full r = is_full_at r.keep r.fresh r.bytes
+is_full r = is_full_at r.keep r.checkpoint r.fresh r.bytes
 
 -- a step begins a chapter
 abbrev pub begins : RecorderView → Step → Bool

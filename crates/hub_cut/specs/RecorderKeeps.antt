@@ -12,9 +12,10 @@ use Rattle.hub_cut.specs.Recorder.{RecorderView, IsKeep, IsRecorder, hub_in}
 abbrev pub shown : Inside → RecorderView
 shown r =
     record {
-      hub = hub_in r.hub;
+      hub = hub_in r.present.hub;
       before = option_map hub_in r.before;
       keep = r.keep;
+      checkpoint = r.present.checkpoint;
       fresh = r.fresh;
       bytes = r.bytes;
       early = r.early;
@@ -22,11 +23,11 @@ shown r =
     }
 
 pub record RecorderKeeps (r : Inside) : Type 0 where
-  pub head : IsHead r.hub.memory.hub.terms.head
-  pub limit : r.hub.memory.hub.terms.limit ≡ MOST_STEPS
+  pub head : IsHead r.present.hub.memory.hub.terms.head
+  pub limit : r.present.hub.memory.hub.terms.limit ≡ MOST_STEPS
   pub keep : IsKeep r.keep
   pub recorder : IsRecorder (shown r)
   -- the lines of its checkpoint, those behind it, and those of exits for which no start keeps a line
-  pub lines : FitLines r.hub.memory.hub.journal r.bytes
+  pub lines : FitLines r.present.hub.memory.hub.journal r.bytes
   pub bytes : r.bytes < CHAPTER_BYTES + MOST_LINE_BYTES
   pub text_before : IfSome (option_map hub_in r.before) FitsText

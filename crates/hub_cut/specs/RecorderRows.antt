@@ -21,15 +21,22 @@ next_row = refl
 pub since_cut_row : since_cut (Cut first_chapter (send 0 1 5 ∷ [])) ≡ send 0 1 5 ∷ []
 since_cut_row = refl
 
--- with three entries of three a chapter is full; with two it is not, unless their lines are very long
-pub full_row : is_full_at 3 3 342 ≡ true
+-- with three entries of three behind a checkpoint of one a chapter is full; with two it is not, unless their lines are very long
+pub full_row : is_full_at 3 1 3 342 ≡ true
 full_row = refl
 
-pub not_full_row : is_full_at 3 2 228 ≡ false
+pub not_full_row : is_full_at 3 1 2 228 ≡ false
 not_full_row = refl
 
-pub long_row : is_full_at 900000 500000 59500000 ≡ true
+pub long_row : is_full_at 900000 65728 500000 59500000 ≡ true
 long_row = refl
+
+-- behind a checkpoint of two it is full with four
+pub twice_row : is_full_at 3 2 4 456 ≡ true
+twice_row = refl
+
+pub not_twice_row : is_full_at 3 2 3 342 ≡ false
+not_twice_row = refl
 
 -- the line of a call of one case has at most 114 bytes
 pub most_line_row : most_line (send 0 1 7) ≡ 114

@@ -9,6 +9,7 @@ mod checkpoint_texts;
 mod checkpoints;
 mod cuts;
 mod limits;
+mod making;
 mod recorder;
 mod renewals;
 mod texts;

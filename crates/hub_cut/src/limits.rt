@@ -1,6 +1,6 @@
 //! The limits of a recorder, and how long its texts can be.
 
-/// The most steps that a chapter may have behind its checkpoint, exits not counted.
+/// The most steps that a chapter may have to have behind its checkpoint, exits not counted.
 pub const MOST_KEEP: u32 = 900_000;
 
 /// The most bytes of an entry's line, without its cases.

@@ -1,11 +1,12 @@
 //! A recorder is a hub that cuts itself, so it never ends.
 //!
-//! The present chapter is cut once it has `keep` steps behind its checkpoint, exits not counted, or once its text might
-//! soon be longer than a reader takes. So the last `keep` steps, or as many as two texts hold, always stand in the
-//! present chapter and in the one before it. Each of these is a journal of its own. Older chapters are handed out. A
-//! checkpoint and `keep` steps stay below the limit of a hub, so no step is refused because the journal is full.
+//! The present chapter is cut once it has `keep` steps behind its checkpoint, and twice as many as that has, exits not
+//! counted; or once its text might soon be longer than a reader takes. So the last `keep` steps, or as many as two texts
+//! hold, always stand in the present chapter and in the one before it. Each of these is a journal of its own. Older
+//! chapters are handed out. A checkpoint and what follows stay below the limit of a hub, so no step is refused because the
+//! journal is full. A cut makes the steps of a checkpoint, so its time stays below that of the calls since the last one.
 
-ghost use Rattle.std.specs.Prelude.{◌≡◌, ◌≤◌, [], IfOk, IfErr, IfSome, OnOk, OnErr, None, true, false};
+ghost use Rattle.std.specs.Prelude.{◌≡◌, ◌≤◌, ◌<◌, ◌^◌, [], IfOk, IfErr, IfSome, OnOk, OnErr, None, true, false};
 ghost use Rattle.std.specs.Option.{option_map};
 ghost use Rattle.hub_base.specs.Head.{is_of};
 ghost use Rattle.hub_base.specs.Runs.{state};
@@ -15,12 +16,13 @@ ghost use Rattle.hub_chapters.specs.Chapters.{Chapters, history};
 ghost use Rattle.hub_chapters.specs.Chapters.Chapters.{First};
 ghost use Rattle.hub_cut.specs.ChapterText.{FitsText};
 ghost use Rattle.hub_cut.specs.Cut.{HasHeard};
-ghost use Rattle.hub_cut.specs.Recorder.{FitTexts, IsKeep, IsRecorder, IsShort, Records, RecordsCut, RecordsStep, RefusesStep, chapter_out, head_of_all, begins, hub_in, is_full, out_or};
+ghost use Rattle.hub_cut.specs.Recorder.{FitTexts, IsKeep, IsRecorder, IsShort, Records, RecordsCut, RecordsStep, RefusesStep, chapter_out, head_of_all, begins, hub_in, is_full, least_of, out_or};
 ghost use Rattle.hub_cut.specs.Totals.{totals_at};
 
 use crate::Totals;
 use crate::cuts::{cut_and_step, cut_short};
 use crate::limits::CHAPTER_BYTES;
+use crate::renewals::Chapter;
 use crate::texts::most_line;
 use crate::totals::{PORT_PLACES, add_received, base_of, no_bases, with_base};
 use hub_base::{Edition, EntryRef, Fault, Hears, MOST_STEPS, NoMemory, Port, StepRef};
@@ -33,11 +35,11 @@ use std::marker::Model;
 pub struct Recorder {
     /// Where a cut takes memory.
     alloc: Global,
-    /// Its journal is the present chapter.
-    hub: ShortHub,
+    /// The present chapter.
+    present: Chapter,
     /// The hub as it was at the last cut: its journal is the chapter before.
     before: Option<ShortHub>,
-    /// With so many steps behind its checkpoint, exits not counted, a chapter is full.
+    /// With fewer steps behind its checkpoint, exits not counted, a chapter is full only if its text might get too long.
     keep: u32,
     /// How many the present chapter has.
     fresh: u32,
@@ -69,9 +71,17 @@ fn keep_last(before: &mut Option<ShortHub>, chapter: ShortHub) -> Option<ShortHu
     before.replace(chapter)
 }
 
+/// How many steps come behind a checkpoint of so many before the next cut, exits not counted.
+fn least_of(keep: u32, checkpoint: u32) -> u32
+    requires { checkpoint < 2 ^ 31 }
+    ensures { result ≡ least_of keep checkpoint }
+{
+    keep.max(2 * checkpoint)
+}
+
 impl Recorder {
     /// A recorder of this edition, with 1 to `MOST_PROCS` processes. A chapter is cut once it has `keep` steps behind its
-    /// checkpoint, exits not counted.
+    /// checkpoint, and twice as many as that has, exits not counted.
     ///
     /// The errors are `BadProcs` and `NoMemory`, tested in this order.
     pub fn open(
@@ -90,7 +100,7 @@ impl Recorder {
         let hub = ShortHub::open(alloc, procs, MOST_STEPS, edition)?;
         Ok(Recorder {
             alloc,
-            hub,
+            present: Chapter { hub, checkpoint: 0 },
             before: None,
             keep,
             fresh: 0,
@@ -134,7 +144,7 @@ impl Recorder {
     fn is_full(&self) -> bool
         ensures { result ≡ is_full self.now }
     {
-        self.fresh >= self.keep || self.bytes >= CHAPTER_BYTES
+        self.fresh >= least_of(self.keep, self.present.checkpoint) || self.bytes >= CHAPTER_BYTES
     }
 
     /// Whether this step, if it is made next, begins a chapter.
@@ -154,8 +164,8 @@ impl Recorder {
         ensures unchanged { OnErr result (self.new ≡ self.old) }
         ensures silent { OnErr result (events.new ≡ events.old) }
     {
-        self.hub.step_heard(entry, events)?;
-        let bytes = most_line(self.hub.head().edition, entry);
+        self.present.hub.step_heard(entry, events)?;
+        let bytes = most_line(self.present.hub.head().edition, entry);
         if !entry.step.is_exit() {
             self.fresh += 1;
             self.bytes += bytes;
@@ -184,8 +194,8 @@ impl Recorder {
         ensures silent { OnErr result (events.new ≡ events.old) }
         ensures kept { OnErr result (out.new ≡ out.old) }
     {
-        let bytes = most_line(self.hub.head().edition, entry);
-        let whole = cut_and_step(self.alloc, &mut self.hub, entry, events)?;
+        let bytes = most_line(self.present.hub.head().edition, entry);
+        let whole = cut_and_step(self.alloc, &mut self.present, entry, events)?;
         add_received(&mut self.bases, &whole);
         self.fresh = 1;
         self.bytes = bytes;
@@ -202,7 +212,7 @@ impl Recorder {
         ensures text { IfOk result (λ chapter. IfSome (option_map hub_in chapter) FitsText) }
         ensures unchanged { OnErr result (self.new ≡ self.old) }
     {
-        let whole = cut_short(self.alloc, &mut self.hub)?;
+        let whole = cut_short(self.alloc, &mut self.present)?;
         add_received(&mut self.bases, &whole);
         self.fresh = 0;
         self.bytes = 0;
@@ -216,7 +226,7 @@ impl Recorder {
         ensures { (chapters : Chapters) → Records chapters self.now
             → result ≡ totals_at (state (head_of_all self.now) (history chapters)) port }
     {
-        let look = self.hub.look(port)?;
+        let look = self.present.hub.look(port)?;
         Some(with_base(base_of(&self.bases, port), look))
     }
 
@@ -224,7 +234,7 @@ impl Recorder {
     pub fn present(&self) -> &ShortHub
         ensures { result.now.memory.hub ≡ self.now.hub }
     {
-        &self.hub
+        &self.present.hub
     }
 
     /// Shows that the recorder stands for some history, and that its chapters are short. It changes nothing.
@@ -233,7 +243,7 @@ impl Recorder {
         ensures short { IsShort self.now }
         ensures texts { FitTexts self.now }
     {
-        self.hub.journal_is_legal();
+        self.present.hub.journal_is_legal();
     }
 
     /// The hub as it was at the last cut, if there was one. Its journal is the chapter before the present one.
@@ -249,6 +259,6 @@ impl Recorder {
         ensures present { hub_in result.1 ≡ self.hub }
         ensures texts { FitTexts self }
     {
-        (self.before, self.hub)
+        (self.before, self.present.hub)
     }
 }

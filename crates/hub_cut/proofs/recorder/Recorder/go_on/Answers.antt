@@ -1,4 +1,4 @@
-use Rattle.std.proofs.Common.{◌≡◌, ◌∙◌, ◌+◌, ap, sym, subst, false, true}
+use Rattle.std.proofs.Common.{◌≡◌, ◌∙◌, ◌+◌, ap, arith, sym, subst, false, true}
 use Rattle.std.proofs.lemmas.Result.{err_from_is_err_and}
 use Rattle.hub_base.specs.declared.head.Edition.{Edition}
 use Rattle.hub_base.specs.declared.head.Head.{Head}
@@ -6,7 +6,7 @@ use Rattle.hub_base.specs.Head.{is_of}
 use Rattle.hub_core.specs.HubView.{HubView}
 use Rattle.hub_cut.specs.Recorder.{RecorderView, begins, head_of_all}
 use Rattle.hub_cut.specs.RecorderKeeps.{shown}
-use Rattle.hub_cut.proofs.Recording.{few_counted, goes_next, keeps_next, none_counts, one_counts, refuses_next}
+use Rattle.hub_cut.proofs.Recording.{few_counted, goes_next, keeps_next, none_counts, one_counts, recorder_fresh, refuses_next}
 use Rattle.hub_cut.proofs.recorder.Recorder.go_on.Goals as goal
 
 pub returns-in_err-step_heard-clause-refused : goal.returns-in_err-step_heard-clause-refused
@@ -26,6 +26,10 @@ most_line-bytes-requires g c =
     subst (λ (r : RecorderView). is_of (head_of_all r).edition e.step ≡ true) (sym c.self.view_is) c.requires.fits in
     let head = ap (λ (h : HubView). h.terms.head.edition) c.in_ok-step_heard.ensures.ok.steps.journal in
     record { fits = subst (λ (ed : Edition). is_of ed e.step ≡ true) (sym (ap (λ (h : Head). h.edition) c.head.ensures.value ∙ head)) fits }
+
+pub overflow_add-self : goal.overflow_add-self
+overflow_add-self g c =
+    omega (arith, recorder_fresh (shown c.self.inside) c.self.invariant.head c.self.invariant.keep c.self.invariant.recorder)
 
 pub invariant_of-self-then-not-is_exit : goal.invariant_of-self-then-not-is_exit
 invariant_of-self-then-not-is_exit g c =

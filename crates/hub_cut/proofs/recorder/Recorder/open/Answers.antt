@@ -16,6 +16,7 @@ invariant_of-result c =
           legal = refl;
           present = ap (λ (h : HubView). h.journal) same;
           before = refl;
+          checkpoint = refl;
           fresh = refl;
           bytes = refl;
           few = omega arith;

@@ -1,0 +1,91 @@
+use Rattle.std.proofs.Common.{◌≡◌, ◌∙◌, ◌+◌, ◌≤◌, ◌++◌, ap, arith, length, map, subst, sym, List}
+use Rattle.hub_base.specs.Entry.{Entry}
+use Rattle.hub_base.specs.Notation.{exit}
+use Rattle.hub_base.specs.State.{State}
+use Rattle.hub_base.specs.Text.{steps_of}
+use Rattle.hub_chapters.specs.Checkpoint.{call_again, checkpoint, exited, ports_again}
+use Rattle.hub_core.specs.HubView.{HubView, state_of}
+use Rattle.hub_cut.specs.Cut.{CanMake, Makes}
+use Rattle.hub_cut.proofs.Parts.{checkpoint_within}
+use Rattle.hub_cut.proofs.Renewing.{can_checkpoint, can_first, can_then, checkpoint_count, longer, made_both}
+use Rattle.hub_cut.proofs.making.make_checkpoint.Goals as goal
+
+abbrev ports : State → List Entry
+ports s = ports_again 1 s.channels
+
+abbrev exits : State → List Entry
+exits s = map exit (exited s)
+
+abbrev calls : State → List Entry
+calls s = map call_again s.parked
+
+pub make_ports-requires : goal.make_ports-requires
+make_ports-requires c =
+    let hub = c.args.hub.now.memory.hub in
+    let base = c.args.next.now.memory.hub in
+    let s = state_of hub in
+    let legal = c.journal_is_legal.ensures in
+    let can : CanMake base (checkpoint s) = rw c.requires.new (can_checkpoint hub legal.fits legal.legal legal.few) in
+    record { can = can_first base (ports s) (exits s) (can_first base (ports s ++ exits s) (calls s) can) }
+
+pub make_exits-requires : goal.make_exits-requires
+make_exits-requires c =
+    let hub = c.args.hub.now.memory.hub in
+    let base = c.args.next.now.memory.hub in
+    let s = state_of hub in
+    let legal = c.journal_is_legal.ensures in
+    let can : CanMake base (checkpoint s) = rw c.requires.new (can_checkpoint hub legal.fits legal.legal legal.few) in
+    record {
+      can = can_then base c.make_ports.new.next.memory.hub (ports s) (exits s) (can_first base (ports s ++ exits s) (calls s) can) c.in_ok-make_ports.ensures;
+    }
+
+pub make_calls-requires : goal.make_calls-requires
+make_calls-requires c =
+    let hub = c.args.hub.now.memory.hub in
+    let base = c.args.next.now.memory.hub in
+    let with_ports = c.make_ports.new.next.memory.hub in
+    let with_exits = c.make_exits.new.next.memory.hub in
+    let s = state_of hub in
+    let legal = c.journal_is_legal.ensures in
+    let can : CanMake base (checkpoint s) = rw c.requires.new (can_checkpoint hub legal.fits legal.legal legal.few) in
+    record {
+      can = can_then base with_exits (ports s ++ exits s) (calls s) can
+          (made_both base with_ports with_exits (ports s) (exits s) c.in_ok-make_ports.ensures c.in_ok-make_exits.ensures);
+    }
+
+-- it has all but the exits
+counted : (s : State) (base with_ports with_exits new : HubView) → length base.journal ≡ 0 → Makes base (ports s) with_ports →
+    Makes with_ports (exits s) with_exits → Makes with_exits (calls s) new →
+    (length with_exits.journal ≡ length with_ports.journal + length (exits s)) × (length new.journal ≡ steps_of (checkpoint s) + length (exits s))
+counted s base with_ports with_exits new none a b c = (
+  longer with_ports (exits s) with_exits b,
+  omega (arith, none, longer base (ports s) with_ports a, longer with_ports (exits s) with_exits b, longer with_exits (calls s) new c, checkpoint_count s),
+)
+
+pub overflow_cast-result : goal.overflow_cast-result
+overflow_cast-result c =
+    let hub = c.args.hub.now.memory.hub in
+    let base = c.args.next.now.memory.hub in
+    let legal = c.journal_is_legal.ensures in
+    let none : length base.journal ≡ 0 = ap (λ (h : HubView). length h.journal) c.requires.new in
+    let counts = counted (state_of hub) base c.make_ports.new.next.memory.hub c.make_exits.new.next.memory.hub c.make_calls.new.next.memory.hub none
+    c.in_ok-make_ports.ensures c.in_ok-make_exits.ensures c.in_ok-make_calls.ensures in
+    let few = checkpoint_within hub legal.legal legal.few in
+    omega (arith, c.len-ports.ensures, c.len.ensures, c.len-2.ensures, counts.0, counts.1, few, c.requires.limit.1)
+
+pub returns-clause-made : goal.returns-clause-made
+returns-clause-made c =
+    let base = c.args.next.now.memory.hub in
+    let with_ports = c.make_ports.new.next.memory.hub in
+    let with_exits = c.make_exits.new.next.memory.hub in
+    let s = state_of c.args.hub.now.memory.hub in
+    made_both base with_exits c.make_calls.new.next.memory.hub (ports s ++ exits s) (calls s)
+    (made_both base with_ports with_exits (ports s) (exits s) c.in_ok-make_ports.ensures c.in_ok-make_exits.ensures) c.in_ok-make_calls.ensures
+
+pub returns-clause-steps : goal.returns-clause-steps
+returns-clause-steps c =
+    let base = c.args.next.now.memory.hub in
+    let none : length base.journal ≡ 0 = ap (λ (h : HubView). length h.journal) c.requires.new in
+    let counts = counted (state_of c.args.hub.now.memory.hub) base c.make_ports.new.next.memory.hub c.make_exits.new.next.memory.hub
+    c.make_calls.new.next.memory.hub none c.in_ok-make_ports.ensures c.in_ok-make_exits.ensures c.in_ok-make_calls.ensures in
+    omega (arith, c.len-ports.ensures, c.len.ensures, c.len-2.ensures, counts.0, counts.1)

@@ -369,17 +369,17 @@ impl Hub {
 
     /// Opens a hub that never ends, with 1 to 64 processes. Returns the hub and a seat for each process, in order.
     ///
-    /// Its journal is cut into *chapters*. Once the present chapter has `keep` steps (1 to 900,000), or its text would grow too long
-    /// for `chanhub replay`, the next step begins a new chapter. A new chapter begins with a *checkpoint*: steps that make the ports,
-    /// the values in their buffers, the exits and the waiting calls again. So each chapter is a journal of its own, which all tools
-    /// read. Nothing else shows that the journal was cut: every call returns what it would if the hub had kept its whole journal.
+    /// Its journal is cut into *chapters*. A new chapter begins with a *checkpoint*: steps that make the ports, the values in their
+    /// buffers, the exits and the waiting calls again. Once `keep` steps (1 to 900,000) came behind it, and twice as many as it has, or
+    /// the text would grow too long for `chanhub replay`, the next step begins a new chapter. So each chapter is a journal of its own,
+    /// which all tools read. Nothing else shows that the journal was cut: every call returns what it would if the hub had kept its whole journal.
     ///
     /// The hub keeps the present chapter, which [`journal`](Hub::journal) returns, and the one [`before`](Hub::before) it. So the last
     /// `keep` steps are always there, or as many as two texts hold. When a chapter begins, the chapter before falls out of the hub:
     /// `chapters` says what becomes of it. When the hub is freed, the chapters that it still keeps fall out too.
     ///
-    /// The hub keeps at most about 2 * (`keep` + 65,792) steps in memory, and twice as many while a chapter falls out. 65,792 is the
-    /// most that a checkpoint has, which takes 64 full channels of capacity 1,024.
+    /// The hub has two chapters in memory, and up to four while they fall out. A checkpoint has at most 65,792 steps, which takes 64 full
+    /// channels of capacity 1,024. At most `keep` steps come behind it, or twice as many as it has, if these are more.
     ///
     /// Drop every seat that no thread uses, as with [`open`](Hub::open).
     ///

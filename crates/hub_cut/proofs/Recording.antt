@@ -4,7 +4,7 @@ use Rattle.hub_laws.proofs.Prelude.{Some, None, ℕ, ◌+◌, ◌≤◌, ◌<◌
 use Rattle.hub_laws.proofs.Prelude.{append_assoc, append-nil, option_map, option_map_or, ◌-◌, ◌==◌, nat_lt, inr, inl, slice_get_past}
 use Rattle.hub_laws.proofs.Prelude.{Entry, Event, Fault, Head, Pid, Port, Channel, State, state, moves, refusal, steps_of, channel_at}
 use Rattle.hub_laws.proofs.Prelude.{Step, is_exit, one_step, cond, not, ◌&&◌, ◌||◌, nat_le}
-use Rattle.std.specs.Prelude.{max, min, ◌*◌, ◌^◌, slice_index, Result, Ok, Err, OnOk}
+use Rattle.std.specs.Prelude.{min, ◌*◌, ◌^◌, slice_index, Result, Ok, Err, OnOk}
 use Rattle.hub_base.specs.declared.fault.Fault.TheVariants as fault
 use Rattle.hub_base.specs.declared.limits.TheConstants.{MOST_STEPS, MOST_PORTS}
 use Rattle.hub_base.specs.Journal.{JournalView}
@@ -36,7 +36,7 @@ use Rattle.hub_cut.specs.ChapterText.{most_line, counted, counted_in}
 use Rattle.hub_cut.specs.Cut.{CutsAndSteps, IsCut, Refused}
 use Rattle.hub_cut.specs.Totals.{in_64_bits, totals_of, totals_at, with_base}
 use Rattle.hub_cut.specs.Recorder.{IsRecorder, IsShort, RecorderView, Records, RecordsStep, RefusesStep, head_of_all, is_full}
-use Rattle.hub_cut.specs.Recorder.{last_checkpoint, least_of, since_cut, with_next, hub_in, IsKeep, is_full_at, chapter_out, begins, out_or}
+use Rattle.hub_cut.specs.Recorder.{last_checkpoint, least_of, since_cut, with_next, hub_in, IsKeep, chapter_out, begins, out_or}
 use Rattle.hub_cut.proofs.ChapterTexts.{checkpoint-no_start, counted_in-append, counts_longer, starts-append}
 use Rattle.hub_cut.proofs.Parts.{steps-append}
 

@@ -1,7 +1,8 @@
 -- A checkpoint whose steps are made in a hub as they are found.
 use Rattle.hub_laws.proofs.Prelude.{◌≡◌, Bool, true, false, List, [], ◌∷◌, ◌++◌, refl, ap, ◌∙◌, sym, subst, None, ℕ, zero, suc, ◌+◌, ◌-◌, ◌≤◌, ◌<◌, arith}
-use Rattle.hub_laws.proofs.Prelude.{length, drop, map, append_assoc, append-nil, length-append, and_parts, cond, is_exit, one_step, steps_of, refusal, state}
-use Rattle.hub_laws.proofs.Prelude.{Option, Some, option_map, option_map_or, take, filter, Entry, Event, Head, Channel, OpenCall, Value, State, Port, channel_at, buffer_of}
+use Rattle.hub_laws.proofs.Prelude.{length, map, append_assoc, append-nil, length-append, and_parts, cond, one_step, steps_of, refusal}
+use Rattle.hub_laws.proofs.Prelude.{Option, Some, option_map_or, take}
+use Rattle.hub_laws.proofs.Prelude.{Entry, Event, Channel, OpenCall, Value, State, Port, channel_at, buffer_of}
 use Rattle.std.specs.Prelude.{Err, Ok, OnOk, Result}
 use Rattle.std.specs.List.{AllByRecursion, list_all}
 use Rattle.std.proofs.lemmas.List.{length-drop, take_all}
@@ -14,7 +15,7 @@ use Rattle.hub_base.specs.Notation.{close, exit, make}
 use Rattle.hub_base.specs.Text.{Fits}
 use Rattle.hub_laws.specs.Journals.{IsLegal}
 use Rattle.hub_laws.proofs.Journals.{begins-law}
-use Rattle.hub_core.specs.HubView.{HasRoom, HubView, Steps, opened_hub, state_of, with_entry, places_after}
+use Rattle.hub_core.specs.HubView.{HasRoom, HubView, Steps, opened_hub, state_of, places_after}
 use Rattle.hub_core.specs.Looks.{counts_of, look_at}
 use Rattle.hub_chapters.specs.Checkpoint.{call_again, checkpoint, exited, port_again, ports_again, send_again}
 use Rattle.hub_chapters.proofs.Checkpoints.{checkpoint-law}

@@ -73,8 +73,7 @@ abbrev pub chapter_before : Head → Chapters → Option JournalView
 chapter_before h (First es) = None
 chapter_before h (Cut chapters later) = Some (record { head = h; entries = last_chapter h chapters })
 
--- so many steps come behind a checkpoint of so many before the next cut. So a cut, which makes the steps of a checkpoint, is
--- paid by the calls since the last, whatever the state
+-- so many steps come behind a checkpoint of so many before the next cut: `keep`, and twice as many as are made again in a cut
 abbrev pub least_of : ℕ → ℕ → ℕ
 least_of keep checkpoint = max keep (2 * checkpoint)
 

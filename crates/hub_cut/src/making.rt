@@ -60,7 +60,7 @@ pub(crate) fn make_all(next: &mut ShortHub, entries: &[Entry]) -> Result<(), NoM
 
 /// A call of these cases.
 fn plain_call(pid: Pid, cases: CaseSlice<'_>) -> EntryRef<'_>
-    ensures { result ≡ by pid.0 (call cases false 0) }
+    ensures { result ≡ by pid.0 (call cases.entry.items false 0) }
 {
     Entry {
         pid,

@@ -4,7 +4,7 @@
 //! counted; or once its text might soon be longer than a reader takes. So the last `keep` steps, or as many as two texts
 //! hold, always stand in the present chapter and in the one before it. Each of these is a journal of its own. Older
 //! chapters are handed out. A checkpoint and what follows stay below the limit of a hub, so no step is refused because the
-//! journal is full. A cut makes the steps of a checkpoint, so its time stays below that of the calls since the last one.
+//! journal is full. A cut takes as long as a checkpoint is: twice as many steps pay for it.
 
 ghost use Rattle.std.specs.Prelude.{◌≡◌, ◌≤◌, ◌<◌, ◌^◌, [], IfOk, IfErr, IfSome, OnOk, OnErr, None, true, false};
 ghost use Rattle.std.specs.Option.{option_map};

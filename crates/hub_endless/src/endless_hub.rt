@@ -44,7 +44,7 @@ impl Model for EndlessHub {
 
 impl EndlessHub {
     /// A hub of this edition, with 1 to `MOST_PROCS` processes, at which no answer waits. A chapter is cut once it has
-    /// `keep` steps behind its checkpoint, exits not counted.
+    /// `keep` steps behind its checkpoint, and twice as many as that has, exits not counted.
     ///
     /// The errors are `BadProcs` and `NoMemory`, tested in this order.
     pub fn open(

@@ -106,8 +106,8 @@ pub fn open_box(alloc: Global, edition: u8, procs: u8, limit: u32) -> Result<Box
     boxed(alloc, open_session(alloc, edition, procs, limit)?)
 }
 
-/// The same of a hub that never ends, which cuts a chapter once it has `keep` steps behind its checkpoint, exits not counted, 1
-/// to `MOST_KEEP`. `hands_out` says whether chapters that are no longer kept wait to be read; else they go. The number 2 is for
+/// The same of a hub that never ends, which cuts a chapter once it has `keep` steps behind its checkpoint, 1 to `MOST_KEEP`, and
+/// twice as many as that has, exits not counted. `hands_out` says whether chapters that are no longer kept wait to be read; else they go. The number 2 is for
 /// `keep`.
 #[inline(never)]
 pub fn open_endless_box(

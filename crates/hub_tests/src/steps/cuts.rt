@@ -191,7 +191,7 @@ enum Act {
     Begins(bool),
 }
 
-/// A chapter has three entries behind its checkpoint, so the fourth and the seventh step cut.
+/// A chapter has three entries behind its checkpoint, or twice as many as that, so the fourth and the tenth step cut.
 const RECORDED: &[Act] = &[
     Act::Step(Ask::Make(2), MADE, None),
     Act::Step(Ask::Send(1, 5), SENT, None),
@@ -199,16 +199,18 @@ const RECORDED: &[Act] = &[
     Act::Step(Ask::Recv(1), Told::Got(0, 5), None),
     Act::Step(Ask::Recv(1), Told::Got(0, 6), None),
     Act::Step(Ask::Send(1, 7), SENT, None),
-    Act::Step(Ask::Recv(1), Told::Got(0, 7), Some(3)),
+    Act::Step(Ask::Recv(1), Told::Got(0, 7), None),
     Act::Step(Ask::Send(1, 8), SENT, None),
+    Act::Step(Ask::Recv(1), Told::Got(0, 8), None),
+    Act::Step(Ask::Send(1, 9), SENT, Some(3)),
 ];
 
-/// Three values were received and one is left, in three chapters.
+/// Four values were received and one is left, in three chapters.
 const CARRIED: Totals = Totals {
     cap: 2,
     len: 1,
-    sent: 4,
-    received: 3,
+    sent: 5,
+    received: 4,
     closed: false,
 };
 
@@ -305,13 +307,13 @@ fn tell(rt: &impl Abort, alloc: Global, story: &Story) {
     }
 }
 
-// The first chapter has three entries, the second three behind a checkpoint of three, the last two behind one of two.
+// The first chapter has three entries, the second six behind a checkpoint of three, the last one behind one of one.
 #[test]
 fn refused_chapters_are_begun_again(rt: HostRuntime) {
     tell(
         &rt,
         rt.alloc(),
-        &("full", 3, RECORDED, CARRIED, (Some(6), 4)),
+        &("full", 3, RECORDED, CARRIED, (Some(9), 2)),
     );
 }
 

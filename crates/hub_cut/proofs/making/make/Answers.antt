@@ -1,4 +1,4 @@
-use Rattle.std.proofs.Common.{◌≡◌, ◌∙◌, ap, arith, sym, subst, true}
+use Rattle.std.proofs.Common.{◌∙◌, ap, arith, subst}
 use Rattle.hub_base.specs.declared.head.Head.{Head}
 use Rattle.hub_base.specs.Head.{is_of}
 use Rattle.hub_base.specs.Text.{Fits}

@@ -1,4 +1,4 @@
-use Rattle.std.proofs.Common.{ap, arith, map, slice_get, subst, sym, take, ℕ}
+use Rattle.std.proofs.Common.{ap, arith, map, slice_get, subst, sym, take}
 use Rattle.std.specs.Prelude.{List}
 use Rattle.hub_base.specs.declared.head.Head.{Head}
 use Rattle.hub_base.specs.State.{OpenCall}

@@ -1,4 +1,4 @@
-use Rattle.std.proofs.Common.{◌≡◌, ◌∙◌, ◌+◌, ◌≤◌, ◌++◌, ap, arith, length, map, subst, sym, List}
+use Rattle.std.proofs.Common.{◌≡◌, ◌+◌, ◌++◌, ap, arith, length, map, List}
 use Rattle.hub_base.specs.Entry.{Entry}
 use Rattle.hub_base.specs.Notation.{exit}
 use Rattle.hub_base.specs.State.{State}

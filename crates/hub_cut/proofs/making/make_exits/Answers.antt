@@ -1,4 +1,4 @@
-use Rattle.std.proofs.Common.{◌≡◌, ◌+◌, ◌++◌, ◌∷◌, [], ap, arith, cond, filter, map, subst, sym, ℕ}
+use Rattle.std.proofs.Common.{◌≡◌, ◌∷◌, [], ap, arith, cond, filter, map, subst, ℕ}
 use Rattle.std.specs.Prelude.{List}
 use Rattle.std.specs.List.{range_with_len}
 use Rattle.hub_base.specs.declared.head.Head.{Head}

@@ -4,7 +4,7 @@ use Rattle.hub_base.specs.Notation.{close, make}
 use Rattle.hub_base.specs.State.{State}
 use Rattle.hub_base.specs.declared.counts.Look.{Look}
 use Rattle.hub_base.specs.declared.value.Port.{Port}
-use Rattle.hub_core.specs.HubView.{HubView, state_of}
+use Rattle.hub_core.specs.HubView.{state_of}
 use Rattle.hub_cut.specs.Cut.{CanMake, Makes}
 use Rattle.hub_cut.specs.Written.{sent_entries}
 use Rattle.hub_cut.proofs.Renewing.{can_first, can_then, made_both, port_is, then_ok}

@@ -1,4 +1,4 @@
-use Rattle.std.proofs.Common.{◌+◌, ap, arith, subst, sym, take, ℕ}
+use Rattle.std.proofs.Common.{◌+◌, arith, subst, sym, take}
 use Rattle.std.specs.Prelude.{List}
 use Rattle.hub_base.specs.State.{Channel}
 use Rattle.hub_base.specs.declared.limits.TheConstants.{MOST_PORTS}

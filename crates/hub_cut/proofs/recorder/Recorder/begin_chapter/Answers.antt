@@ -35,7 +35,8 @@ invariant_of-self-2 g c =
       recorder = (
         Cut c.self.invariant.recorder.0 (e ∷ []),
         rw (handed, c.most_line-bytes.ensures.most)
-            (records_cut c.self.invariant.recorder.0 old e c.cut_and_step.new.chapter.hub.memory.hub c.cut_and_step.new.chapter.checkpoint c.in_ok-whole.ensures.ok.told
+            (records_cut c.self.invariant.recorder.0 old e c.cut_and_step.new.chapter.hub.memory.hub c.cut_and_step.new.chapter.checkpoint
+            c.in_ok-whole.ensures.ok.told
             c.add_received.new.bases c.self.invariant.recorder.1 full c.self.invariant.keep.0 steps c.in_ok-whole.ensures.checkpoint
             (λ p few. c.add_received.ensures p.0 (omega (arith, c.self.told, few))
             ∙ ap (λ (h : ShortInMemory). in_64_bits (slice_index old.bases p.0 + received_count (state_of h.memory.hub) p)) whole)),

@@ -25,7 +25,8 @@ invariant_of-self-2 c =
       recorder = (
         Cut c.self.invariant.recorder.0 [],
         rw handed
-            (records_early c.self.invariant.recorder.0 old c.cut_short.new.chapter.hub.memory.hub c.cut_short.new.chapter.checkpoint c.add_received.new.bases c.self.invariant.recorder.1 cut c.in_ok-whole.ensures.checkpoint
+            (records_early c.self.invariant.recorder.0 old c.cut_short.new.chapter.hub.memory.hub c.cut_short.new.chapter.checkpoint
+            c.add_received.new.bases c.self.invariant.recorder.1 cut c.in_ok-whole.ensures.checkpoint
             (λ p few. c.add_received.ensures p.0 (omega (arith, c.self.told, few))
             ∙ ap (λ (h : ShortInMemory). in_64_bits (slice_index old.bases p.0 + received_count (state_of h.memory.hub) p)) whole)),
       );
@@ -44,7 +45,8 @@ returns-clause-ok c =
     ap (option_map hub_in) c.keep_last.ensures.kept ∙ ap (λ (h : ShortInMemory). Some (hub_in h)) whole in
     rw (← c.self.view_is, kept)
     (record {
-      goes_on = λ chapters so. records_early chapters old c.cut_short.new.chapter.hub.memory.hub c.cut_short.new.chapter.checkpoint c.add_received.new.bases so cut c.in_ok-whole.ensures.checkpoint
+      goes_on = λ chapters so. records_early chapters old c.cut_short.new.chapter.hub.memory.hub c.cut_short.new.chapter.checkpoint
+          c.add_received.new.bases so cut c.in_ok-whole.ensures.checkpoint
           (λ p few. c.add_received.ensures p.0 (omega (arith, c.self.told, few))
           ∙ ap (λ (h : ShortInMemory). in_64_bits (slice_index old.bases p.0 + received_count (state_of h.memory.hub) p)) whole);
       terms = ap (λ (h : HubView). h.terms) cut.hub;

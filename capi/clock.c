@@ -60,7 +60,7 @@ static void step_clock_freely(chanhub *h, struct told *t) {
 
 /* Makes the step that is next in the journal that the hub follows: the clock's, or a close for ends that are gone. */
 static void step_again(chanhub *h, struct told *t) {
-    unsigned pid = (unsigned)__builtin_ctzll(hub_c_next(&h->hub));
+    unsigned pid = (unsigned)__builtin_ctzll(h->next);
     struct next step = hub_c_step_of(&h->hub, (uint8_t)pid);
     if (step.what == STEP_CLOSE) close_for_ends(h, pid, step.port, t);
     else if (step.what == STEP_RECV) park_clock(h, t);

@@ -2,8 +2,8 @@
  * what stands behind it take it first.
  *
  * A hub that follows a journal makes a step only in its turn. A call whose turn has not come waits at its place. After each step
- * the thread that made it wakes the process whose step is next; once there is none, since the hub has diverged or all is made,
- * it wakes all. If the hub ends then, each call is told so, also those that wait for an answer.
+ * the thread that made it notes whose step is next, and wakes that process if it waits; once there is none, since the hub has
+ * diverged or all is made, it wakes all. If the hub ends then, each call is told so, also those that wait for an answer.
  *
  * The journal has each close of a port by the process that made it when the port's last end was dropped; now another thread may drop
  * last, sooner or later. So the library makes this close as that process, in its turn, once all ends are gone and no call of the
@@ -11,14 +11,9 @@
  */
 #include "hub.h"
 
-/* The process whose step is next in the journal, as a set; the empty one once no step is made in turn. */
-static uint64_t next_in_turn(chanhub *h) {
-    return h->state == FOLLOWS ? hub_c_next(&h->hub) : 0;
-}
-
 /* The process whose step has to be made first, as a set; the empty one where a call of this process waits for no turn. */
-static uint64_t first_before(chanhub *h, unsigned pid) {
-    return next_in_turn(h) & ~only(pid);
+static uint64_t first_before(const chanhub *h, unsigned pid) {
+    return h->next & ~only(pid);
 }
 
 /* Waits, in a call of this process, until its turn may have come. */
@@ -32,6 +27,7 @@ static void wait_for_turn(chanhub *h, unsigned pid) {
 void end_at(chanhub *h, uint64_t number) {
     if (!h->diverged) h->diverged = number;
     h->state = ENDED;
+    h->next = 0;
     wake(h, EVERYBODY);
 }
 
@@ -48,7 +44,7 @@ static bool may_be_for_ends(chanhub *h, unsigned port) {
 
 /* Whether a call of this process has to wait for a close that the library makes. It may close the port itself. */
 static bool is_behind(chanhub *h, unsigned pid, int step) {
-    if (!(h->with_ends || h->foresees) || !only(pid) || !next_in_turn(h)) return false;
+    if (!(h->with_ends || h->foresees) || !only(pid) || !h->next) return false;
     struct next next = hub_c_step_of(&h->hub, (uint8_t)pid);
     return next.what == STEP_CLOSE && next.port != step && may_be_for_ends(h, next.port);
 }
@@ -73,10 +69,9 @@ uint8_t await_closes(chanhub *h, unsigned pid, int step) {
 
 /* Whether the step that is next in the journal is the library's: the clock's, or such a close. */
 bool is_ours_next(chanhub *h) {
-    uint64_t next = next_in_turn(h);
-    if (!next || next & only(h->clock)) return next;
-    if (!h->gone || next & h->open & ~h->behind) return false;
-    struct next step = hub_c_step_of(&h->hub, (uint8_t)__builtin_ctzll(next));
+    if (!h->next || h->next & only(h->clock)) return h->next;
+    if (!h->gone || h->next & h->open & ~h->behind) return false;
+    struct next step = hub_c_step_of(&h->hub, (uint8_t)__builtin_ctzll(h->next));
     return step.what == STEP_CLOSE && h->gone & only_port(step.port);
 }
 
@@ -120,15 +115,22 @@ static void go_on(chanhub *h) {
 
 /* ---- Turns. ---- */
 
-/* Sees to what follows from a call that came to this. Returns whom to wake: the process whose step is next, or all if there is
- * none. Then a hub that goes on no longer follows; otherwise the deadlines of calls that wait end it. */
+/* Whether a thread waits for the turn of this process, or for a close before it. */
+static bool is_awaited(const chanhub *h, unsigned pid) {
+    return h->awaited & only(pid) || h->places[pid].asking;
+}
+
+/* Sees to what follows from a call that came to this. Returns whom to wake: the process whose step is next, if it waits, or all if
+ * there is none. Then a hub that goes on no longer follows; otherwise the deadlines of calls that wait end it. */
 uint64_t pass_turn(chanhub *h, const struct told *t) {
     if (t->it.fault == CHANHUB_DIVERGED && h->goes_on) h->diverged = t->it.value.number;
     else if (t->it.fault == CHANHUB_DIVERGED) end_at(h, t->it.value.number);
-    uint64_t next = hub_c_next(&h->hub);
-    if (!next && h->goes_on && h->state == FOLLOWS) go_on(h);
-    if (next) h->places[__builtin_ctzll(next)].turns++;
-    return next ? next : EVERYBODY;
+    h->next = h->state == FOLLOWS ? hub_c_next(&h->hub) : 0;
+    if (!h->next && h->goes_on && h->state == FOLLOWS) go_on(h);
+    if (!h->next) return EVERYBODY;
+    unsigned pid = (unsigned)__builtin_ctzll(h->next);
+    h->places[pid].turns++;
+    return is_awaited(h, pid) ? h->next : 0;
 }
 
 /* Whether the step that came to this is to be made again, since its turn had not come. Then waits for that, unless the hub has
@@ -163,7 +165,9 @@ bool chanhub_turn(chanhub *h, unsigned pid, uint64_t nanoseconds) {
     bool has_time = true, waits;
     take_lock(h);
     uint32_t turns = mine->turns;
+    mine->asking++;
     while ((waits = mine->turns == turns && would_wait(h, pid)) && has_time) has_time = sleep_until(h, mine, end);
+    mine->asking--;
     leave_lock(h);
     return !waits;
 }
@@ -171,7 +175,7 @@ bool chanhub_turn(chanhub *h, unsigned pid, uint64_t nanoseconds) {
 void chanhub_closes_with_ends(chanhub *h, unsigned port) {
     if (!h) return;
     take_lock(h);
-    if (next_in_turn(h)) {
+    if (h->next) {
         h->with_ends |= only_port(port);
         h->foresees |= port == 0;
     }
@@ -181,7 +185,7 @@ void chanhub_closes_with_ends(chanhub *h, unsigned port) {
 bool chanhub_ends_gone(chanhub *h, unsigned port) {
     if (!h) return false;
     take_lock(h);
-    bool is_ours = next_in_turn(h) && h->with_ends & only_port(port);
+    bool is_ours = h->next && h->with_ends & only_port(port);
     if (is_ours) {
         h->gone |= only_port(port);
         if (is_due(h)) settle(h, NOBODY);

@@ -96,6 +96,7 @@ struct place {
     uint64_t deadline; /* of the call, if it is in `timed` */
     atomic_uint_least64_t told; /* when it was woken since it was cleared, in ticks; 0 if it was not; read without the lock */
     uint32_t turns;             /* how many times its process's turn came, in a hub that follows a journal */
+    uint32_t asking;            /* how many threads are in chanhub_turn for it */
     int step;                   /* what its process's last call was to make, as for enter, in a hub that follows a journal */
     uint16_t made;              /* the port that its process's last call made, in a hub that follows a journal; 0 if it made none */
     uint8_t late;               /* how many times running its answer came later than a look would have seen */
@@ -128,6 +129,7 @@ struct chanhub {
     uint64_t exits;             /* how many exits were made */
     uint64_t looked;            /* the ports whose counts are shown */
     enum state state;
+    uint64_t next;              /* whose step is next in the journal that it follows; nobody's once no step is made in turn */
     bool goes_on;               /* whether it is free when it has diverged from the journal */
     bool asks_again;            /* whether a call whose turn has not come is told so */
     bool foresees;              /* whether ports may close with their ends of which that was not said yet */

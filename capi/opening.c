@@ -91,7 +91,8 @@ static int differs(const chanhub_options *o, bool has_clock) {
 static int begin_following(chanhub **hub, uint8_t clock) {
     chanhub *h = *hub;
     h->clock = clock;
-    h->state = h->goes_on && !hub_c_next(&h->hub) ? FREE : FOLLOWS;
+    h->next = hub_c_next(&h->hub);
+    h->state = h->goes_on && !h->next ? FREE : FOLLOWS;
     set_clock(h, clock == NOBODY ? NO_CLOCK : AWAKE);
     if (h->state == FOLLOWS) settle(h, NOBODY);
     return h->state == ENDED ? no_memory(hub) : 0;

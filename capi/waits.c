@@ -72,8 +72,8 @@ bool has_passed(uint64_t time) {
 
 /* When the deadline of this process's open call passes. No time ends a call until all of the journal that the hub follows is
  * made. Holds the lock. */
-static uint64_t deadline_of(chanhub *h, unsigned pid) {
-    return h->timed & only(pid) && !(h->state && hub_c_next(&h->hub)) ? h->places[pid].deadline : FOR_EVER;
+static uint64_t deadline_of(const chanhub *h, unsigned pid) {
+    return h->timed & only(pid) && !h->next ? h->places[pid].deadline : FOR_EVER;
 }
 
 /* ---- Waits for answers. ---- */

@@ -30,8 +30,8 @@ use Rattle.hub_follow.specs.declared.not_made.NotMade.{NotMade}
 use Rattle.hub_follow.specs.declared.not_made.NotMade.TheVariants.{Refused, NotYet, Diverged}
 use Rattle.hub_follow.specs.Follow.{FollowKeeps, FollowView, FollowsStep, IsAdmitted, IsAt, IsBeginning, IsDue, IsFree, IsNext, diverged_at, diverged_by, made}
 use Rattle.hub_follow.specs.Follow.{FollowsAnew, follow_view, number_of, step_with, turn_of, with_locked, with_word}
-use Rattle.hub_follow.specs.Stands.{Passes, Stands}
-use Rattle.hub_follow.specs.Stands.{is_of as is_of_pid}
+use Rattle.hub_follow.specs.Given.{GivenView}
+use Rattle.hub_follow.specs.Stands.{Follows, Passes, Stands, given_of}
 use Rattle.hub_follow.proofs.Turns.{turn_here}
 
 -- ---- the next entry of the journal
@@ -139,11 +139,23 @@ step_next l e word now (Err (Refused f)) keeps due passes =
 step_next l e word now (Err other) keeps due passes = absurd passes
 
 -- what the hub keeps, with the step or without it
-pub keeps_passed : (l : FollowView) (e : Entry) (now : LockedView) (result : Result Event NotMade) → FollowKeeps l → IsDue l e
-    → Passes l.locked e now result → FollowKeeps (with_locked now l)
-keeps_passed l e now (Ok answer) keeps next passes = keeps_next l e now answer keeps next passes.ok
-keeps_passed l e now (Err (Refused f)) keeps next passes = subst FollowKeeps (sym (same l now passes.1)) keeps
-keeps_passed l e now (Err other) keeps next passes = absurd passes
+pub follows_made : (l : FollowView) (given : GivenView) (e : Entry) (now : LockedView) (answer : Event) → Follows l given → IsDue l e
+    → Passes l.locked e now (Ok answer) → Follows (with_locked now l) (record { entries = given.entries; made = given.made + 1 })
+follows_made l given e now answer follows due passes =
+    let longer : now.hub.journal ≡ l.locked.hub.journal ++ e ∷ [] = ap (λ (h : HubView). h.journal) passes.ok.step.journal in
+    let count : length now.hub.journal ≡ made l + 1 = ap length longer ∙ length_push l.locked.hub.journal e in
+    let Next : GivenView → GivenView = λ g. record { entries = g.entries; made = g.made + 1 } in
+    let With : ℕ → GivenView = λ n. record { entries = l.given; made = n } in
+    record {
+      keeps = keeps_next l e now answer follows.keeps due passes.ok;
+      in_turn = λ none. ap Next (follows.in_turn due.following) ∙ ap With (sym count);
+    }
+
+-- without it
+pub follows_refused : (l : FollowView) (given : GivenView) (e : Entry) (now : LockedView) (why : NotMade) → Follows l given
+    → Passes l.locked e now (Err why) → Follows (with_locked now l) given
+follows_refused l given e now (Refused f) follows passes = subst (λ (m : FollowView). Follows m given) (sym (same l now passes.1)) follows
+follows_refused l given e now other follows passes = absurd passes
 
 -- ---- a step that is not admitted
 
@@ -158,11 +170,10 @@ refused l e now (Err (Refused f)) keeps not passes =
     }
 refused l e now (Err other) keeps not passes = absurd passes
 
-pub keeps_refused : (l : FollowView) (e : Entry) (now : LockedView) (result : Result Event NotMade) → FollowKeeps l → ¬ IsAdmitted l e
-    → Passes l.locked e now result → FollowKeeps (with_locked now l)
-keeps_refused l e now (Ok answer) keeps not passes = absurd (not passes.ok.step.admitted)
-keeps_refused l e now (Err (Refused f)) keeps not passes = subst FollowKeeps (sym (same l now passes.1)) keeps
-keeps_refused l e now (Err other) keeps not passes = absurd passes
+pub follows_not_admitted : (l : FollowView) (given : GivenView) (e : Entry) (now : LockedView) (result : Result Event NotMade) → Follows l given
+    → ¬ IsAdmitted l e → Passes l.locked e now result → Follows (with_locked now l) given
+follows_not_admitted l given e now (Ok answer) follows not passes = absurd (not passes.ok.step.admitted)
+follows_not_admitted l given e now (Err why) follows not passes = follows_refused l given e now why follows passes
 
 -- ---- a hub that follows no longer
 
@@ -184,10 +195,9 @@ goes_on l e now answer free after serves =
 -- where the next step is this, it is its process's next
 turn_next : (l : FollowView) (e : Entry) → IsNext l e → turn_of l e.pid ≡ Some (made l)
 turn_next l e next =
-    turn_here e.pid (made l) l.given (slice_get_within l.given (made l) (with_word next.0 e) next.1.at)
-    (ap (is_of_pid e.pid) next.1.at ∙ eq-eqb e.pid.0 e.pid.0 refl)
+    turn_here e.pid.0 (made l) l.given (with_word next.0 e) next.1.at (eq-eqb e.pid.0 e.pid.0 refl)
 
-pub early : (l : FollowView) (e : Entry) → FollowKeeps l → IsAdmitted l e → l.diverged ≡ None → Stands l e Early → FollowsStep l e l (Err NotYet)
+pub early : (l : FollowView) (e : Entry) → FollowKeeps l → IsAdmitted l e → l.diverged ≡ None → Stands (given_of l) e Early → FollowsStep l e l (Err NotYet)
 early l e keeps admitted following stands =
     record {
       does = (record { admitted = admitted; following = following; left = stands.0; later = stands.1 }, refl);
@@ -197,7 +207,7 @@ early l e keeps admitted following stands =
           absurd (omega (arith, later.0));
     }
 
-pub other : (l : FollowView) (e : Entry) (number : ℕ) → IsAdmitted l e → l.diverged ≡ None → Stands l e (Other number)
+pub other : (l : FollowView) (e : Entry) (number : ℕ) → IsAdmitted l e → l.diverged ≡ None → Stands (given_of l) e (Other number)
     → FollowsStep l e (diverged_by e number l) (Err (Diverged number))
 other l e number admitted following stands =
     record {
@@ -220,27 +230,34 @@ other l e number admitted following stands =
 
 -- ---- an answer is taken
 
-pub keeps_taken : (l : FollowView) (q : ℕ) → FollowKeeps l → FollowKeeps (with_locked (without_answer l.locked q) l)
-keeps_taken l q keeps =
+pub follows_taken : (l : FollowView) (given : GivenView) (q : ℕ) → Follows l given → Follows (with_locked (without_answer l.locked q) l) given
+follows_taken l given q follows =
+    let keeps = follows.keeps in
     record {
-      legal = keeps.legal;
-      fits = keeps.fits;
-      asked_fits = keeps.asked_fits;
-      room = keeps.room;
-      few = keeps.few;
-      begins = keeps.begins;
+      keeps = record {
+        legal = keeps.legal;
+        fits = keeps.fits;
+        asked_fits = keeps.asked_fits;
+        room = keeps.room;
+        few = keeps.few;
+        begins = keeps.begins;
+      };
+      in_turn = follows.in_turn;
     }
 
 -- ---- the opening
 
 -- what a hub keeps at which nothing has happened
-pub keeps_opened : (after : AfterDivergence) (given : HubView) (locked : LockedView) → IsLegal given.terms.head given.journal
+pub follows_opened : (after : AfterDivergence) (given : HubView) (locked : LockedView) → IsLegal given.terms.head given.journal
     → AreOf given.terms.head.edition given.journal → steps_of given.journal ≤ given.terms.limit
     → length given.journal ≤ MOST_BYTES → locked ≡ none_waits (opened_hub given.terms)
-    → FollowKeeps (follow_view locked given.journal after None None)
-keeps_opened after given locked legal fits room few is =
-    subst (λ (l : LockedView). FollowKeeps (follow_view l given.journal after None None)) (sym is)
-    (record { legal = legal; fits = fits; asked_fits = tt; room = room; few = few; begins = λ none. refl })
+    → Follows (follow_view locked given.journal after None None) (record { entries = given.journal; made = 0 })
+follows_opened after given locked legal fits room few is =
+    subst (λ (l : LockedView). Follows (follow_view l given.journal after None None) (record { entries = given.journal; made = 0 })) (sym is)
+    (record {
+      keeps = record { legal = legal; fits = fits; asked_fits = tt; room = room; few = few; begins = λ none. refl };
+      in_turn = λ none. refl;
+    })
 
 -- what is told of it
 pub opened : (text : List ℕ) (after : AfterDivergence) (given : HubView) (l : FollowView) → MakesText text given

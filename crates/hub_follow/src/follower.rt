@@ -3,8 +3,7 @@
 //! Both hubs have the same edition, and as many processes. As long as nothing has diverged, what the one has made is a
 //! beginning of what the other has.
 
-ghost use Rattle.std.specs.Prelude.{◌≡◌, ◌<◌, ◌≤◌, ◌==◌, ℕ, IfOk, IfErr, IfSome, IfNone, None, Some, Err, true, length, drop, slice_get};
-ghost use Rattle.std.specs.List.{position_from};
+ghost use Rattle.std.specs.Prelude.{◌≡◌, ◌≤◌, ℕ, IfOk, IfErr, IfSome, IfNone, None, Some, Err, true, length, slice_get};
 ghost use Rattle.hub_base.specs.Head.{AreOf, is_of};
 ghost use Rattle.hub_base.specs.declared.limits.TheConstants.{MOST_BYTES};
 ghost use Rattle.hub_core.specs.HubView.{opened_hub};
@@ -13,14 +12,14 @@ ghost use Rattle.hub_live.specs.Locked.{IsReplyTo, answer_for, none_waits, witho
 ghost use Rattle.hub_chain.specs.Faults.{IsNotLegal};
 ghost use Rattle.hub_story.specs.Clock.{clock_of};
 ghost use Rattle.hub_follow.specs.Follow.{FollowsAnew, FollowsStep, IsAdmitted, IsBeginning, IsDue, IsFree, IsOfIts, diverged_by, next_of, number_of, step_of, with_locked, with_word};
-ghost use Rattle.hub_follow.specs.Stands.{Passes, Stands, word_of};
-ghost use Rattle.hub_follow.specs.Stands.{is_of as is_entry_of};
+ghost use Rattle.hub_follow.specs.Stands.{Passes, Stands, given_of, word_of};
 ghost use Rattle.hub_follow.specs.declared.not_made.NotMade.TheVariants.{Diverged, NotYet};
 
 use crate::NotMade;
+use crate::given::Given;
 use hub_base::{CaseSlice, Entry, EntryRef, Event, NoMemory, Pid, Step, StepRef};
 use hub_chain::{ChainFault, is_same_entry, read_hub};
-use hub_core::{CaseRoom, Hub, ShortEntries, ShortHub, ShortJournal};
+use hub_core::{CaseRoom, Hub, ShortEntries, ShortHub};
 use hub_live::under_lock::Locked;
 use hub_story::clock_of;
 use std::alloc::Global;
@@ -45,16 +44,6 @@ pub(crate) enum Stand {
     Other(u32),
     /// All of the journal is made.
     Over,
-}
-
-/// Whether the entry at this place is of this process.
-fn is_of(given: &ShortEntries, place: usize, pid: Pid) -> bool
-    ensures { result ≡ is_entry_of pid (slice_get given.now place) }
-{
-    match given.pid_at(place) {
-        Some(own) => own.0 == pid.0,
-        None => false,
-    }
 }
 
 /// The choice word of a call; 0 for any other step.
@@ -93,13 +82,17 @@ fn with_word<'a>(entry: &EntryRef<'a>, word: u64) -> EntryRef<'a>
     }
 }
 
-/// The choice word with which this entry stands at this place, if it does.
-fn word_at(given: &ShortEntries, place: usize, entry: &EntryRef<'_>) -> Option<u64>
+/// The choice word with which this entry stands at this place, if it does. The cases that stand there are put in the room for them.
+fn word_at(
+    given: &ShortEntries,
+    place: usize,
+    entry: &EntryRef<'_>,
+    room: &mut CaseRoom,
+) -> Option<u64>
     ensures found { IfSome result (λ word. slice_get given.now place ≡ Some (with_word word entry.now)) }
     ensures none { IfNone result ((word : ℕ) → ¬ (slice_get given.now place ≡ Some (with_word word entry.now))) }
 {
-    let mut room = CaseRoom::new();
-    let there = given.get(place, &mut room)?;
+    let there = given.get(place, room)?;
     let word = word_of(&there.step);
     if is_same_entry(&there, &with_word(entry, word)) {
         Some(word)
@@ -108,18 +101,23 @@ fn word_at(given: &ShortEntries, place: usize, entry: &EntryRef<'_>) -> Option<u
     }
 }
 
-/// The place of the first entry of this process, from this place on.
-fn turn_from(given: &ShortEntries, made: usize, pid: Pid) -> Option<usize>
-    ensures turn { result ≡ position_from (λ e. e.pid.0 == pid.0) made (drop made given.now) }
-    ensures behind { IfSome result (λ place. made ≤ place) }
-    ensures within { IfSome result (λ place. place < length given.now) }
+/// How the step stands to the journal.
+fn stand_in(given: &Given, entry: &EntryRef<'_>, room: &mut CaseRoom) -> Stand
+    requires few { length given.now.entries ≤ MOST_BYTES }
+    ensures { Stands given.now entry.now result }
 {
-    for place in made..given.len() {
-        if is_of(given, place, pid) {
-            return Some(place);
-        }
+    let made = given.made();
+    if made >= given.entries().len() {
+        return Stand::Over;
     }
-    None
+    match given.turn(entry.pid) {
+        None => Stand::Early,
+        Some(place) => match word_at(given.entries(), place, entry, room) {
+            None => Stand::Other(place as u32 + 1),
+            Some(word) if place == made => Stand::Next(word),
+            Some(_) => Stand::Early,
+        },
+    }
 }
 
 /// The hub makes the step or refuses it.
@@ -136,24 +134,27 @@ fn pass(hub: &mut Locked, entry: &EntryRef<'_>) -> Result<Event, NotMade>
 pub struct Follower {
     /// The hub, and the answers that wait.
     hub: Locked,
-    /// The journal that is followed.
-    given: ShortJournal,
+    /// The journal that is followed. Until the hub diverges, as much of it is made as the hub has made.
+    given: Given,
     /// What comes after a divergence.
     after: AfterDivergence,
     /// The number of the step at which it diverged, if it did.
     diverged: Option<u32>,
     /// The step that was the first to be a divergence, if one was.
     asked: Option<Entry>,
+    /// Where the cases of the journal's next step are put.
+    room: CaseRoom,
 }
 
 impl Model for Follower {
-    ghost use Rattle.hub_follow.specs.Follow.{FollowView, FollowKeeps, follow_view};
+    ghost use Rattle.hub_follow.specs.Follow.{FollowView, follow_view};
+    ghost use Rattle.hub_follow.specs.Stands.{Follows};
 
     ghost Value = { FollowView };
 
     ghost view = { λ l. follow_view l.hub l.given.entries l.after l.diverged l.asked };
 
-    ghost invariant = { λ l. FollowKeeps (follow_view l.hub l.given.entries l.after l.diverged l.asked) };
+    ghost invariant = { λ l. Follows (follow_view l.hub l.given.entries l.after l.diverged l.asked) l.given };
 }
 
 impl Follower {
@@ -194,13 +195,14 @@ impl Follower {
         ensures unasked { IfOk result (λ l. l.asked ≡ None) }
     {
         given.journal_is_legal();
-        let given = given.into_short_journal(alloc)?;
+        let journal = given.into_short_journal(alloc)?;
         Ok(Follower {
             hub: Locked::of(hub),
-            given,
+            given: Given::of(alloc, journal)?,
             after,
             diverged: None,
             asked: None,
+            room: CaseRoom::new(),
         })
     }
 
@@ -227,23 +229,13 @@ impl Follower {
         }
     }
 
-    /// How the step stands to the journal.
-    fn stand(&self, entry: &EntryRef<'_>) -> Stand
-        ensures { Stands self.now entry.now result }
+    /// How the step stands to the journal that it follows.
+    fn stand(&mut self, entry: &EntryRef<'_>) -> Stand
+        requires following { self.old.diverged ≡ None }
+        ensures stands { Stands (given_of self.old) entry.now result }
+        ensures unchanged { self.new ≡ self.old }
     {
-        let given = self.given.entries();
-        let made = self.hub.len();
-        if made >= given.len() {
-            return Stand::Over;
-        }
-        match turn_from(given, made, entry.pid) {
-            None => Stand::Early,
-            Some(place) => match word_at(given, place, entry) {
-                None => Stand::Other(place as u32 + 1),
-                Some(word) if place == made => Stand::Next(word),
-                Some(_) => Stand::Early,
-            },
-        }
+        stand_in(&self.given, entry, &mut self.room)
     }
 
     /// The hub refuses the step.
@@ -261,7 +253,9 @@ impl Follower {
         requires due { IsDue self.old (with_word word entry.now) }
         ensures rules { FollowsStep self.old entry.now self.new result }
     {
-        pass(&mut self.hub, &with_word(entry, word))
+        let answer = pass(&mut self.hub, &with_word(entry, word))?;
+        self.given.advance();
+        Ok(answer)
     }
 
     /// Makes a step that is admitted, where the hub goes on freely, or else none.
@@ -348,7 +342,7 @@ impl Follower {
         let None = self.diverged else {
             return None;
         };
-        let place = turn_from(self.given.entries(), self.hub.len(), pid)?;
+        let place = self.given.turn(pid)?;
         let entry = self.given(place)?;
         Some((place as u32 + 1, entry))
     }

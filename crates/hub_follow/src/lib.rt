@@ -7,6 +7,7 @@
 #![tactic(auto)]
 
 mod follower;
+mod given;
 mod not_made;
 
 pub use follower::{AfterDivergence, Follower};

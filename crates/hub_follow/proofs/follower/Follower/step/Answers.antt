@@ -8,8 +8,9 @@ returns-in-Early c =
     let l = c.args.self.now in
     let admitted : IsAdmitted l c.args.entry.now = search rules in
     let following : l.diverged ≡ None = search rules in
-    let keeps = subst FollowKeeps c.self.view_is c.self.invariant in
-    record { rules = rw (c.not_yet.ensures.unchanged, c.not_yet.ensures.told) (early l c.args.entry.now keeps admitted following c.in-Early.ensures) }
+    let keeps = subst FollowKeeps c.self.view_is c.self.invariant.keeps in
+    record { rules = rw (c.not_yet.ensures.unchanged, c.in-Early.ensures.unchanged, c.not_yet.ensures.told)
+          (early l c.args.entry.now keeps admitted following c.in-Early.ensures.stands) }
 
 pub returns-in-Other : goal.returns-in-Other
 returns-in-Other c =
@@ -17,5 +18,6 @@ returns-in-Other c =
     let admitted : IsAdmitted l c.args.entry.now = search rules in
     let following : l.diverged ≡ None = search rules in
     record {
-      rules = rw (c.diverge.ensures.diverged, c.diverge.ensures.told) (other l c.args.entry.now c.in-Other.number admitted following c.in-Other.ensures);
+      rules = rw (c.diverge.ensures.diverged, c.in-Other.ensures.unchanged, c.diverge.ensures.told)
+          (other l c.args.entry.now c.in-Other.number admitted following c.in-Other.ensures.stands);
     }

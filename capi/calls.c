@@ -49,9 +49,9 @@ chanhub_told finish_by_waking(chanhub *h, uint8_t pid, const struct told *t, uin
     shows; \
     return finish(h, (uint8_t)pid, &t, nanoseconds)
 
-/* Notes which port a call made; only turns in a journal want to know. */
+/* Notes which port a call made; only closes that are foreseen want to know. */
 static inline void note_made(chanhub *h, unsigned pid, uint16_t port) {
-    if (h->state == FOLLOWS && only(pid)) h->places[pid].made = port;
+    if (h->foresees && only(pid)) h->places[pid].made = port;
 }
 
 chanhub_told chanhub_make(chanhub *h, unsigned pid, uint32_t cap) {

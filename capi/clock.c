@@ -15,7 +15,8 @@
 
 /* Sets whose calls look closer before they begin. Holds the lock. */
 void set_closer(chanhub *h) {
-    h->closer = h->clock_is == AWAKE || h->state ? EVERYBODY : only(h->clock);
+    bool all = h->state == FREE ? h->clock_is == AWAKE : h->state == ENDED || h->with_ends || h->foresees;
+    h->closer = all ? EVERYBODY : only(h->clock);
 }
 
 /* Notes what the clock is at. Holds the lock. Where the clock waits, no call that waits has a deadline that counts: otherwise

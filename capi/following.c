@@ -28,6 +28,7 @@ void end_at(chanhub *h, uint64_t number) {
     if (!h->diverged) h->diverged = number;
     h->state = ENDED;
     h->next = 0;
+    set_closer(h);
     wake(h, EVERYBODY);
 }
 
@@ -133,11 +134,10 @@ uint64_t pass_turn(chanhub *h, const struct told *t) {
     return is_awaited(h, pid) ? h->next : 0;
 }
 
-/* Whether the step that came to this is to be made again, since its turn had not come. Then waits for that, unless the hub has
- * ended meanwhile. Where the hub follows no longer, all processes may have been in calls until now, so that nobody could make a close
+/* Whether the step whose turn had not come, as this tells, is to be made again. Then waits for that, unless the hub has ended
+ * meanwhile. Where the hub follows no longer, all processes may have been in calls until now, so that nobody could make a close
  * for ends that are gone: it comes before the step. */
 static bool waits_for_turn(chanhub *h, unsigned pid, struct told *t) {
-    if (t->it.what) return false;
     if (!h->asks_again) wait_for_turn(h, pid);
     if (h->state == FREE && h->gone) close_gone(h, pid);
     if (h->state != ENDED && !h->asks_again) return true;
@@ -178,6 +178,7 @@ void chanhub_closes_with_ends(chanhub *h, unsigned port) {
     if (h->next) {
         h->with_ends |= only_port(port);
         h->foresees |= port == 0;
+        set_closer(h);
     }
     leave_lock(h);
 }

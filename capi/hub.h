@@ -120,7 +120,8 @@ struct chanhub {
     uint64_t awaited;           /* for whose answer a thread waits now */
     uint64_t timed;             /* whose call with a deadline waits in the hub, or is about to; nobody's while the clock waits */
     uint64_t timed_out;         /* whose call the clock cancelled; its answer is not picked up */
-    uint64_t closer;            /* whose calls look closer first: all while the clock is awake, or it is not free; and the clock's */
+    uint64_t closer;            /* whose calls look closer first: the clock's, and all while a free hub's is awake, while ports may close
+                                   with their ends, and in a hub that has ended */
     uint8_t clock;              /* the number of the clock; NOBODY where there is none */
     enum clock clock_is;
     atomic_uint sleepers;       /* how many threads sleep for the lock */
@@ -306,7 +307,7 @@ static inline uint8_t enter(chanhub *h, unsigned pid, int step) {
 /* Whether the step that came to this is to be made again, since its turn had not come, or there was no room for another chapter.
  * Both may be otherwise when this returns, unless another thread was faster. Holds the lock, but not while it waits. */
 static inline bool is_to_be_made_again(chanhub *h, unsigned pid, struct told *t) {
-    return (h->state | t->chapter) && is_for_another_try(h, pid, t);
+    return (h->state | t->chapter) && !(h->state && t->it.what) && is_for_another_try(h, pid, t);
 }
 
 /* Makes a step, and again while it is to be. Holds the lock, but not while it waits. */

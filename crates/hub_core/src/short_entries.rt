@@ -1,13 +1,14 @@
 //! Entries that are kept short.
 
-ghost use Rattle.std.specs.Prelude.{◌≡◌, ◌<◌, ◌+◌, ◌++◌, ◌∷◌, [], IfOk, OnErr, OnOk, Some, false, length, slice_get};
+ghost use Rattle.std.specs.Prelude.{◌≡◌, ◌<◌, ◌+◌, ◌++◌, ◌∷◌, [], IfOk, IsTrue, List, OnErr, OnOk, Some, false, length, slice_get};
 ghost use Rattle.std.specs.Option.{option_map, option_map_or};
 ghost use Rattle.hub_base.specs.Values.{cases_at};
 ghost use Rattle.hub_laws.specs.Once.{is_call};
-ghost use Rattle.hub_core.specs.LogView.{AreBriefs, StandFrom, written};
+ghost use Rattle.hub_core.specs.LogView.{AreBriefs, StandFrom, entry_of, written};
+ghost use Rattle.hub_base.specs.declared.case.Case.{Case};
 
 use crate::CaseRoom;
-use crate::brief::{Brief, keep, short_at, short_case, write_out};
+use crate::brief::{Brief, brief_of_plain, keep, short_at, short_case, write_out};
 use crate::case_list::CaseList;
 use hub_base::{Case, Entry, EntryRef, Pid};
 use std::alloc::{AllocError, Global};
@@ -33,6 +34,31 @@ impl Model for ShortEntries {
     ghost view = { λ s. written s.briefs.items s.cases.items };
 
     ghost invariant = { λ s. AreBriefs s.briefs.items s.cases.items × StandFrom 0 s.briefs.items };
+}
+
+/// Whether both are kept of one plain send or receive.
+#[inline(always)]
+fn is_same_plain(brief: Brief, other: Brief) -> bool
+    ensures { IsTrue result → ((cases others : List Case) → entry_of brief cases ≡ entry_of other others) }
+{
+    match (brief, other) {
+        (
+            Brief::Send { pid, port, number },
+            Brief::Send {
+                pid: own,
+                port: given,
+                number: sent,
+            },
+        ) => pid.0 == own.0 && port.0 == given.0 && number == sent,
+        (
+            Brief::Recv { pid, port },
+            Brief::Recv {
+                pid: own,
+                port: given,
+            },
+        ) => pid.0 == own.0 && port.0 == given.0,
+        _ => false,
+    }
 }
 
 impl ShortEntries {
@@ -123,6 +149,20 @@ impl ShortEntries {
     {
         match self.briefs.get(place) {
             Some(brief) => brief.is_call(),
+            None => false,
+        }
+    }
+
+    /// Whether this entry stands at this place: a call that sends a number or receives, with one case, no default and word 0. Of any
+    /// other entry this is false, also where it stands there.
+    pub fn has_plain(&self, place: usize, entry: &EntryRef<'_>) -> bool
+        ensures { IsTrue result → (slice_get self.now place ≡ Some entry.now) }
+    {
+        let Some(brief) = brief_of_plain(entry) else {
+            return false;
+        };
+        match self.briefs.get(place) {
+            Some(there) => is_same_plain(*there, brief),
             None => false,
         }
     }

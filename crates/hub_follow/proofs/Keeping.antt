@@ -31,7 +31,7 @@ use Rattle.hub_follow.specs.declared.not_made.NotMade.TheVariants.{Refused, NotY
 use Rattle.hub_follow.specs.Follow.{FollowKeeps, FollowView, FollowsStep, IsAdmitted, IsAt, IsBeginning, IsDue, IsFree, IsNext, diverged_at, diverged_by, made}
 use Rattle.hub_follow.specs.Follow.{FollowsAnew, follow_view, number_of, step_with, turn_of, with_locked, with_word}
 use Rattle.hub_follow.specs.Given.{GivenView}
-use Rattle.hub_follow.specs.Stands.{Follows, Passes, Stands, given_of}
+use Rattle.hub_follow.specs.Stands.{Follows, Passes, Stands, given_of, word_of}
 use Rattle.hub_follow.proofs.Turns.{turn_here}
 
 -- ---- the next entry of the journal
@@ -156,6 +156,19 @@ pub follows_refused : (l : FollowView) (given : GivenView) (e : Entry) (now : Lo
     → Passes l.locked e now (Err why) → Follows (with_locked now l) given
 follows_refused l given e now (Refused f) follows passes = subst (λ (m : FollowView). Follows m given) (sym (same l now passes.1)) follows
 follows_refused l given e now other follows passes = absurd passes
+
+-- with its own word it is the same
+step_with_own : (s : Step) → step_with (word_of s) s ≡ s
+step_with_own (Make cap) = refl
+step_with_own (Call cases default own) = refl
+step_with_own (Close p) = refl
+step_with_own Exit = refl
+step_with_own (Cancel q) = refl
+step_with_own (Start q) = refl
+step_with_own (Reopen p cap) = refl
+
+pub with_own : (e : Entry) → with_word (word_of e.step) e ≡ e
+with_own e = ap (λ s. record { pid = e.pid; step = s }) (step_with_own e.step)
 
 -- ---- a step that is not admitted
 

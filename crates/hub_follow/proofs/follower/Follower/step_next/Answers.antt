@@ -10,8 +10,10 @@ advance-requires c =
     let l = follow_view c.self.inside.hub c.self.inside.given.entries c.self.inside.after c.self.inside.diverged c.self.inside.asked in
     let given = with_word c.args.word c.args.entry.now in
     let due : IsDue l given = subst (λ (m : FollowView). IsDue m given) (sym c.self.view_is) c.requires.due in
-    subst (λ (g : GivenView). g.made < length g.entries) (sym (c.self.invariant.in_turn due.following))
-    (slice_get_within l.given (made l) given due.at)
+    record {
+      left = subst (λ (g : GivenView). g.made < length g.entries) (sym (c.self.invariant.in_turn due.following))
+          (slice_get_within l.given (made l) given due.at);
+    }
 
 pub invariant_of-self-2 : goal.invariant_of-self-2
 invariant_of-self-2 c =

@@ -10,29 +10,39 @@
 extern inline chanhub_value chanhub_number(uint64_t number);
 extern inline chanhub_value chanhub_bytes(const void *bytes, size_t length);
 
-/* Whether a call of this process can begin: the fault if not, and then it leaves the lock. Holds the lock. */
+/* Why a call of this process cannot begin, or 0. Holds the lock. */
 uint8_t look_closer(chanhub *h, unsigned pid, int step) {
     uint8_t why = h->open & only(pid) ? CHANHUB_BUSY : h->state == FOLLOWS ? await_closes(h, pid, step) : 0;
-    if (!why) why = h->state == ENDED ? CHANHUB_DIVERGED : refusal_by_clock(h, pid, step == EXIT);
-    if (why) leave_lock(h);
-    return why;
+    if (why) return why;
+    return h->state == ENDED ? CHANHUB_DIVERGED : refusal_by_clock(h, pid, step == EXIT);
+}
+
+/* Does what follows from a step that parked, and waits for its answer for so many nanoseconds. Holds the lock, but not while it waits. */
+chanhub_told await_answer(chanhub *h, unsigned pid, const struct told *t, uint64_t nanoseconds) {
+    h->open |= only(pid);
+    follow_up(h, pid, t);
+    if (is_due(h)) settle(h, pid);
+    return wait_for(h, pid, nanoseconds);
 }
 
 /* Ends the call of a process whose step parked, ended calls, or left a chapter to be read: wakes those whose calls it ended,
  * hands out the chapter that it made fall out, sees to the clock, and where it parked, waits for so many nanoseconds. Holds the
  * lock since the step, and leaves it. */
 chanhub_told finish_by_waking(chanhub *h, uint8_t pid, const struct told *t, uint64_t nanoseconds) {
-    bool has_parked = t->it.what == CHANHUB_WAITING;
-    if (has_parked) h->open |= only(pid);
-    uint64_t woken = note_step(h, t);
-    bool claimed = claims_chapter(h, t->chapter);
-    if (has_parked || claimed || is_due(h)) {
-        wake(h, woken);
-        woken = 0;
-        if (claimed) hand_out(h, pid);
-        if (is_due(h)) settle(h, pid);
+    chanhub_told answer = t->it;
+    uint64_t woken = 0;
+    if (t->it.what == CHANHUB_WAITING) {
+        answer = await_answer(h, pid, t, nanoseconds);
+    } else {
+        woken = note_step(h, t);
+        bool claimed = claims_chapter(h, t->chapter);
+        if (claimed || is_due(h)) {
+            wake(h, woken);
+            woken = 0;
+            if (claimed) hand_out(h, pid);
+            if (is_due(h)) settle(h, pid);
+        }
     }
-    chanhub_told answer = has_parked ? wait_for(h, pid, nanoseconds) : t->it;
     leave_lock(h);
     wake(h, woken);
     return answer;

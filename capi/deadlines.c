@@ -10,7 +10,7 @@
 
 /* Does what follows from a step that is not the last of this process's call. The library's steps that are next in the journal are
  * made here, since this thread may have to wait for its next turn. Other hubs see to the clock once the call ends. */
-static void follow_up_within(chanhub *h, unsigned pid, const struct told *t) {
+void follow_up_within(chanhub *h, unsigned pid, const struct told *t) {
     follow_up(h, pid, t);
     if (h->state) settle(h, pid);
 }
@@ -75,59 +75,69 @@ chanhub_told time_out(chanhub *h, unsigned pid) {
     return pick_up(h, pid);
 }
 
+/* Makes a call that was tried and has to wait, with a deadline. */
+static void wait_with_deadline(chanhub *h, unsigned pid, const chanhub_case *cases, size_t count, uint64_t word, struct told *t) {
+    uint8_t why = begin_deadline(h, pid);
+    if (why) *t = (struct told){ .it = refused(h, why) };
+    else STEP(h, pid, t, hub_c_call(&h->hub, (uint8_t)pid, cases, count, false, word, t));
+}
+
+/* Tries a call with a deadline, with a default, unless it is to wait without; then makes it, if it is to wait. A call that was tried in
+ * the place that a journal has, and then was refused memory, goes on from there. */
+static void try_until(chanhub *h, unsigned pid, const chanhub_case *cases, size_t count, uint64_t word, struct told *t) {
+    bool waits;
+    enum state state;
+    do {
+        state = h->state;
+        waits = waits_untried(h, pid);
+        if (waits) h->timed |= only(pid);
+        else h->timed &= ~only(pid);
+        hub_c_call(&h->hub, (uint8_t)pid, cases, count, !waits, word, t);
+    } while (is_to_be_made_again(h, pid, t));
+    if (t->it.what != CHANHUB_DEFAULT) return;
+    if (!waits_when_tried(h, pid, state == FOLLOWS)) {
+        t->it.what = CHANHUB_TIMED_OUT;
+        return;
+    }
+    follow_up_within(h, pid, t);
+    wait_with_deadline(h, pid, cases, count, word, t);
+}
+
+/* Makes the steps of a call with a deadline, which it no longer has afterwards unless it waits. The last came to `t`. */
+void call_until(chanhub *h, unsigned pid, const chanhub_case *cases, size_t count, uint64_t word, uint64_t deadline, struct told *t) {
+    h->places[pid].deadline = deadline;
+    if (h->state == FOLLOWS && wakes_clock_next(h, pid)) wait_with_deadline(h, pid, cases, count, word, t);
+    else try_until(h, pid, cases, count, word, t);
+    if (t->it.what != CHANHUB_WAITING || h->clock_is != AWAKE) h->timed &= ~only(pid);
+}
+
 /* ---- The calls. ---- */
 
-/* Ends a call with a deadline whose step came to this. It no longer has one unless it waits. Holds the lock since the step, and
- * leaves it. */
-static chanhub_told finish_timed(chanhub *h, unsigned pid, const struct told *t, uint64_t nanoseconds) {
-    if (t->it.what != CHANHUB_WAITING || h->clock_is != AWAKE) h->timed &= ~only(pid);
-    return finish_by_waking(h, (uint8_t)pid, t, nanoseconds);
+/* Why a call of this process cannot have a deadline, or 0. */
+uint8_t refusal_of_deadline(const chanhub *h, unsigned pid) {
+    if (h->clock == NOBODY) return CHANHUB_BAD_CALL;
+    return pid < h->clock ? 0 : CHANHUB_NO_PROCESS;
 }
 
-/* Makes a call that was tried and has to wait, with a deadline. Holds the lock, and leaves it. */
-static chanhub_told wait_with_deadline(chanhub *h, unsigned pid, const chanhub_case *cases, size_t count, uint64_t word,
-                                       uint64_t nanoseconds) {
-    struct told t = { 0 };
-    uint8_t why = begin_deadline(h, pid);
-    if (why) t.it = refused(h, why);
-    else STEP(h, pid, &t, hub_c_call(&h->hub, (uint8_t)pid, cases, count, false, word, &t));
-    show_fired(h, cases, count, &t);
-    return finish_timed(h, pid, &t, nanoseconds);
+/* Ends a call with a deadline, as finish does, and sees to the clock. Holds the lock since its step, and leaves it. */
+chanhub_told finish_timed(chanhub *h, unsigned pid, const struct told *t, uint64_t nanoseconds) {
+    return is_due(h) ? finish_by_waking(h, (uint8_t)pid, t, nanoseconds) : finish(h, (uint8_t)pid, t, nanoseconds);
 }
 
-/* A select with a deadline. It is tried first, with a default, unless it is to wait without. A call that was tried in the place
- * that a journal has, and then was refused memory, goes on from there. */
+/* A select with a deadline. */
 static chanhub_told select_until(chanhub *h, unsigned pid, const chanhub_case *cases, size_t count, bool has_default,
                                  uint64_t word, uint64_t deadline, uint64_t nanoseconds) {
     if (is_bad(h, pid, 0) || h->clock == NOBODY) return fault(CHANHUB_BAD_CALL);
     if (has_default || deadline == FOR_EVER) {
         return (nanoseconds ? chanhub_select : chanhub_begin)(h, pid, cases, count, has_default, word);
     }
-    if (pid >= h->clock) return fault(CHANHUB_NO_PROCESS);
-    uint8_t why = enter(h, pid, ANY_STEP);
+    uint8_t why = refusal_of_deadline(h, pid);
+    if (!why) why = enter(h, pid, ANY_STEP);
     if (why) return refused(h, why);
     struct told t = { 0 };
-    bool waits;
-    enum state state;
-    h->places[pid].deadline = deadline;
-    if (h->state == FOLLOWS && wakes_clock_next(h, pid)) return wait_with_deadline(h, pid, cases, count, word, nanoseconds);
-    do {
-        state = h->state;
-        waits = waits_untried(h, pid);
-        if (waits) h->timed |= only(pid);
-        else h->timed &= ~only(pid);
-        hub_c_call(&h->hub, (uint8_t)pid, cases, count, !waits, word, &t);
-    } while (is_to_be_made_again(h, pid, &t));
+    call_until(h, pid, cases, count, word, deadline, &t);
     show_fired(h, cases, count, &t);
-    if (waits) return finish_timed(h, pid, &t, nanoseconds);
-    if (t.it.what == CHANHUB_DEFAULT) {
-        if (waits_when_tried(h, pid, state == FOLLOWS)) {
-            follow_up_within(h, pid, &t);
-            return wait_with_deadline(h, pid, cases, count, word, nanoseconds);
-        }
-        t.it.what = CHANHUB_TIMED_OUT;
-    }
-    return finish(h, (uint8_t)pid, &t, FOR_EVER);
+    return finish_timed(h, pid, &t, nanoseconds);
 }
 
 /* The same, of this one case. */

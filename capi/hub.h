@@ -7,6 +7,7 @@
  *     waits.c        waits for the lock and for answers
  *     clock.c        the steps of the clock, which ends calls whose deadlines have passed
  *     deadlines.c    the calls with a deadline
+ *     batches.c      the calls of many values
  *     following.c    turns in the journal that a hub follows
  *     journals.c     the texts of journals
  *     chapters.c     the chapters of a hub that never ends
@@ -198,6 +199,7 @@ chanhub_told wait_for(chanhub *h, unsigned pid, uint64_t nanoseconds);
 
 /* calls.c */
 uint8_t look_closer(chanhub *h, unsigned pid, int step);
+chanhub_told await_answer(chanhub *h, unsigned pid, const struct told *t, uint64_t nanoseconds);
 chanhub_told finish_by_waking(chanhub *h, uint8_t pid, const struct told *t, uint64_t nanoseconds);
 
 /* clock.c */
@@ -210,7 +212,11 @@ uint64_t steps_left(chanhub *h);
 uint8_t refusal_by_clock(chanhub *h, unsigned pid, bool exits);
 
 /* deadlines.c */
+void follow_up_within(chanhub *h, unsigned pid, const struct told *t);
 chanhub_told time_out(chanhub *h, unsigned pid);
+uint8_t refusal_of_deadline(const chanhub *h, unsigned pid);
+void call_until(chanhub *h, unsigned pid, const chanhub_case *cases, size_t count, uint64_t word, uint64_t deadline, struct told *t);
+chanhub_told finish_timed(chanhub *h, unsigned pid, const struct told *t, uint64_t nanoseconds);
 
 /* following.c */
 void end_at(chanhub *h, uint64_t number);
@@ -301,7 +307,9 @@ enum { EXIT = -1, ANY_STEP = 0 };
 
 static inline uint8_t enter(chanhub *h, unsigned pid, int step) {
     take_lock(h);
-    return (h->open | h->closer) & only(pid) ? look_closer(h, pid, step) : 0;
+    uint8_t why = (h->open | h->closer) & only(pid) ? look_closer(h, pid, step) : 0;
+    if (why) leave_lock(h);
+    return why;
 }
 
 /* Whether the step that came to this is to be made again, since its turn had not come, or there was no room for another chapter.

@@ -30,6 +30,7 @@
 #include <string_view>
 #include <type_traits>
 #include <utility>
+#include <vector>
 
 struct chanhub {
     // Only the library makes one. It is a scope here.
@@ -231,6 +232,22 @@ public:
         return wanted(told, Outcome::Got).value;
     }
 
+    // Sends all values of a range, such as a vector of numbers. Throws Error if one was not sent; those before it were.
+    template <class Range> void send_all(Port port, const Range &values) const {
+        const std::vector<Value> all(std::begin(values), std::end(values));
+        wanted(send_all_told(port, all.data(), all.size()), Outcome::Sent);
+    }
+
+    // Waits for a value, and takes up to `most` while the buffer holds any. None if the port is closed and empty.
+    [[nodiscard]] std::vector<Value> recv_up_to(Port port, std::size_t most) const {
+        std::vector<Value> values(most);
+        std::size_t received = 0;
+        const Told told = recv_up_to_told(port, values.data(), most, &received);
+        if (told.outcome != Outcome::Drained) wanted(told, Outcome::Got);
+        values.resize(received);
+        return values;
+    }
+
     // For a range-for: receives until the port is closed and empty.
     [[nodiscard]] Values drain(Port port) const noexcept;
 
@@ -269,6 +286,14 @@ public:
     [[nodiscard]] Told start_told(unsigned other) const noexcept { return Told(chanhub_start(hub_, pid_, other)); }
     [[nodiscard]] Told cancel_told(unsigned other) const noexcept { return Told(chanhub_cancel(hub_, pid_, other)); }
 
+    // What the first value was told that was not sent, and how many were; or the last that was received.
+    [[nodiscard]] Told send_all_told(Port port, const Value *values, std::size_t count, std::size_t *sent = nullptr) const noexcept {
+        return send_all_until(port, values, count, CHANHUB_NEVER, sent);
+    }
+    [[nodiscard]] Told recv_up_to_told(Port port, Value *values, std::size_t most, std::size_t *received = nullptr) const noexcept {
+        return recv_up_to_until(port, values, most, CHANHUB_NEVER, received);
+    }
+
     // They never wait: the outcome is Default instead.
     [[nodiscard]] Told try_send(Port port, const Value &value) const noexcept {
         return Told(chanhub_try_send(hub_, pid_, static_cast<unsigned>(port), value.c()));
@@ -283,6 +308,14 @@ public:
     }
     [[nodiscard]] Told recv_for(Port port, std::chrono::nanoseconds time) const noexcept {
         return Told(chanhub_recv_until(hub_, pid_, static_cast<unsigned>(port), deadline_in(time)));
+    }
+    [[nodiscard]] Told send_all_for(Port port, const Value *values, std::size_t count, std::chrono::nanoseconds time,
+                                    std::size_t *sent = nullptr) const noexcept {
+        return send_all_until(port, values, count, deadline_in(time), sent);
+    }
+    [[nodiscard]] Told recv_up_to_for(Port port, Value *values, std::size_t most, std::chrono::nanoseconds time,
+                                      std::size_t *received = nullptr) const noexcept {
+        return recv_up_to_until(port, values, most, deadline_in(time), received);
     }
 
     // seat.select({chanhub::recv(jobs), chanhub::send(results, 7)}) waits until one of the cases can proceed. If several can, a random word
@@ -327,6 +360,17 @@ private:
         return time.count() > 0 ? static_cast<std::uint64_t>(time.count()) : 0;
     }
     static std::uint64_t deadline_in(std::chrono::nanoseconds time) noexcept { return chanhub_in(number_of(time)); }
+
+    // A Value is no more than what it has of C.
+    static_assert(sizeof(Value) == sizeof(chanhub_value) && std::is_standard_layout_v<Value>);
+    Told send_all_until(Port port, const Value *values, std::size_t count, std::uint64_t deadline, std::size_t *sent) const noexcept {
+        const auto *c = reinterpret_cast<const chanhub_value *>(values);
+        return Told(chanhub_send_all(hub_, pid_, static_cast<unsigned>(port), c, count, deadline, sent));
+    }
+    Told recv_up_to_until(Port port, Value *values, std::size_t most, std::uint64_t deadline, std::size_t *received) const noexcept {
+        auto *c = reinterpret_cast<chanhub_value *>(values);
+        return Told(chanhub_recv_up_to(hub_, pid_, static_cast<unsigned>(port), c, most, deadline, received));
+    }
 
     const Told &wanted(const Told &told, Outcome outcome) const {
         if (told.outcome != outcome) throw Error(told, text_by(chanhub_divergence, hub_));

@@ -136,7 +136,9 @@ static chanhub_told end(struct batch *b) {
 
 static chanhub_told send_all(chanhub *h, unsigned pid, unsigned port, const chanhub_value *values, size_t count, uint64_t deadline,
                              uint64_t nanoseconds, size_t *sent) {
-    struct batch b = { .hub = h, .pid = (uint8_t)pid, .port = (uint16_t)port, .sends = true, .deadline = deadline, .nanoseconds = nanoseconds };
+    struct batch b = {
+        .hub = h, .pid = (uint8_t)pid, .port = (uint16_t)port, .sends = true, .deadline = deadline, .nanoseconds = nanoseconds
+    };
     size_t done = 0;
     if (sent) *sent = 0;
     uint8_t why = refusal(&b, pid, port);

@@ -16,6 +16,7 @@
 
 #include "chanhub.h"
 
+#include <algorithm>
 #include <chrono>
 #include <cstddef>
 #include <cstdint>
@@ -240,9 +241,9 @@ public:
 
     // Waits for a value, and takes up to `most` while the buffer holds any. None if the port is closed and empty.
     [[nodiscard]] std::vector<Value> recv_up_to(Port port, std::size_t most) const {
-        std::vector<Value> values(most);
+        std::vector<Value> values(std::min(most, most_at_once));
         std::size_t received = 0;
-        const Told told = recv_up_to_told(port, values.data(), most, &received);
+        const Told told = recv_up_to_told(port, values.data(), values.size(), &received);
         if (told.outcome != Outcome::Drained) wanted(told, Outcome::Got);
         values.resize(received);
         return values;
@@ -360,6 +361,8 @@ private:
         return time.count() > 0 ? static_cast<std::uint64_t>(time.count()) : 0;
     }
     static std::uint64_t deadline_in(std::chrono::nanoseconds time) noexcept { return chanhub_in(number_of(time)); }
+
+    static constexpr std::size_t most_at_once = 1'024 + 63; // a full buffer, and what all others wait to send
 
     // A Value is no more than what it has of C.
     static_assert(sizeof(Value) == sizeof(chanhub_value) && std::is_standard_layout_v<Value>);

@@ -21,7 +21,7 @@ cxxflags='-std=c++17 -O2 -Wall -Wextra -Werror -I.'
 by_cxx=
 flags="-std=c11 -D_DEFAULT_SOURCE -O2 -Wall -Wextra -Werror -I."
 # what tests link with the names within the library, to wrap them; texts.c, which needs none of it, is left out
-hub='calls.c chapters.c clock.c deadlines.c files.c following.c heap.c journals.c looks.c opening.c waits.c watch.c'
+hub='batches.c calls.c chapters.c clock.c deadlines.c files.c following.c heap.c journals.c looks.c opening.c waits.c watch.c'
 proved="../crates/hub_c/out/libhub_c.a $(dirname "$(rt doc)")/c/liblibc_c.a"
 threads='cancelled second closed stalled handed'
 handing='busy parked woken full cancelled slow inside'
@@ -74,6 +74,11 @@ soaks() {
 # lives NAME COUNT: whether so many processes come and go, each with a port that is opened again, and the chapters are whole.
 lives() {
     mkdir -p "$work/$1-chapters" && "$work/$1" many "$2" "$work/$1-chapters" && is_whole "$work/$1-chapters/chapter"
+}
+
+# passes_many NAME: whether all values pass a hub that hands out short chapters, which are whole.
+passes_many() {
+    mkdir -p "$work/$1-chapters" && "$work/$1" endless "$work/$1-chapters" && is_whole "$work/$1-chapters/chapter"
 }
 
 # writes_files: whether chapters are written to files.
@@ -214,7 +219,7 @@ printf 'stalled: 0 recv 2\nstalled: 1 recv 1\n' > "$work/stalled"
 printf 'got 5\nneither\nsent\n' > "$work/choice-lines"
 
 for test in calls conveniences crew threads memory endless handing chapters files soak lives steps deadlines following followed_clock \
-    followed_runs ends watch; do
+    followed_runs ends watch batches; do
     check "$test builds" "$cc" $flags "tests/$test.c" out/libchanhub.a -lpthread -o "$work/$test"
 done
 check 'resume builds' "$cc" $flags -Wl,--wrap=clock_gettime tests/resume.c out/libchanhub.a -lpthread -o "$work/resume"
@@ -243,6 +248,10 @@ done
 for test in load chapters; do
     check "deadlines of 16 threads: $test" deadlines deadlines "$test"
 done
+for test in alone threads followed; do
+    check "many values: $test" "$work/batches" "$test"
+done
+check 'many values without an end' passes_many batches
 wrapped=
 for name in recv call cancel; do wrapped="$wrapped -Wl,--wrap=hub_c_$name"; done
 check 'clock builds' "$cc" $flags $wrapped $hub tests/clock.c $proved -lpthread -o "$work/clock"
@@ -320,7 +329,7 @@ if echo 'int main(void) { return 0; }' | "$cc" -fsanitize=thread -x c - -o "$wor
     sanitized="$work/sanitized.o $proved -lpthread"
     check 'the library builds for the thread sanitizer' "$cc" $sanitize -r -nostdlib $hub texts.c \
         -o "$work/sanitized.o"
-    for test in crew threads handing chapters soak lives deadlines following followed_runs ends watch; do
+    for test in crew threads handing chapters soak lives deadlines following followed_runs ends watch batches; do
         check "$test builds for the thread sanitizer" "$cc" $sanitize "tests/$test.c" $sanitized -o "$work/sanitized-$test"
     done
     check 'resume builds for the thread sanitizer' "$cc" $sanitize -Wl,--wrap=clock_gettime tests/resume.c $sanitized -o "$work/sanitized-resume"
@@ -337,6 +346,9 @@ if echo 'int main(void) { return 0; }' | "$cc" -fsanitize=thread -x c - -o "$wor
         check "begun and resumed under the thread sanitizer: $test" "$work/sanitized-resume" "$test"
     done
     check 'hubs that stand still under the thread sanitizer' is_watched sanitized-watch
+    check 'many values under the thread sanitizer: threads' "$work/sanitized-batches" threads
+    check 'many values under the thread sanitizer: 20 random runs' "$work/sanitized-batches" followed 20
+    check 'many values without an end under the thread sanitizer' passes_many sanitized-batches
     check 'deadlines under the thread sanitizer: threads' "$work/sanitized-deadlines" threads
     check 'deadlines under the thread sanitizer: chapters' deadlines sanitized-deadlines chapters
     check 'a journal is followed under the thread sanitizer: alone' "$work/sanitized-following" alone
@@ -360,7 +372,7 @@ else
 fi
 if command -v valgrind > "$work/found"; then
     for test in calls conveniences $by_cxx "crew $work 1 20" pool 'threads cancelled' 'threads second' 'threads closed' 'resume alone' \
-        'resume threads' 'deadlines alone' 'following alone' followed_clock 'ends alone' 'endless short' 'lives alone' \
+        'resume threads' 'deadlines alone' 'batches alone' 'following alone' followed_clock 'ends alone' 'endless short' 'lives alone' \
         'handing busy' 'handing parked' 'handing woken' 'handing full' 'handing cancelled' \
         "files $(mktemp -d -p "$work")"; do
         check "valgrind: $test" valgrind -q --error-exitcode=9 --leak-check=full --show-leak-kinds=all "$work"/$test

@@ -501,6 +501,40 @@ static void times() {
 }
 
 // What no hub has, and one with a limit, a clock and chapters.
+static void many_values() {
+    const Hub hub(1);
+    const Seat seat = hub.seat(0);
+    const Port port = seat.make(4);
+    seat.send_all(port, std::vector<int>{1, 2, 3});
+    is("all that there are", seat.recv_up_to(port, 64) == std::vector<Value>{1, 2, 3});
+    seat.send_all(port, std::vector<std::string>{"a", "", "bc"});
+    is("as many as wanted", seat.recv_up_to(port, 2) == std::vector<Value>{"a", ""});
+    const std::vector<Value> values{4, 5, 6, 7};
+    std::size_t count = 9;
+    is("full", seat.send_all_told(port, values.data(), values.size(), &count).outcome == Outcome::Stalled && count == 3);
+    std::vector<Value> got(2);
+    is("the last", seat.recv_up_to_told(port, got.data(), got.size(), &count).value == Value(4) && count == 2);
+    is("each", got == std::vector<Value>{"bc", 4});
+    throws("a stall in the middle", Outcome::Stalled, Fault::None, "chanhub: stalled", [&] { seat.send_all(port, values); });
+    seat.close(port);
+    throws("closed", Outcome::Closed, Fault::None, "chanhub: closed", [&] { seat.send_all(port, values); });
+    is("none", seat.send_all_told(port, nullptr, 0).outcome == Outcome::Sent);
+    is("what is left, at most", seat.recv_up_to(port, std::numeric_limits<std::size_t>::max()).size() == 4);
+    is("no more", seat.recv_up_to(port, 64).empty());
+    is_fault("none wanted", seat.recv_up_to_told(port, got.data(), 0), Fault::BadCall);
+    is_fault("no clock", seat.send_all_for(port, values.data(), 1, std::chrono::milliseconds(1)), Fault::BadCall);
+
+    Hub::Options options;
+    options.procs = 1;
+    options.clock = true;
+    const Hub timed = Hub::with(options);
+    const Port two = timed.seat(0).make(2);
+    const Told told = timed.seat(0).send_all_for(two, values.data(), values.size(), std::chrono::milliseconds(1), &count);
+    is("in the middle", told.outcome == Outcome::TimedOut && count == 2);
+    is("got", timed.seat(0).recv_up_to_for(two, got.data(), got.size(), std::chrono::milliseconds(1), &count).value == Value(5));
+    is("none", timed.seat(0).recv_up_to_for(two, got.data(), 1, std::chrono::milliseconds(1)).outcome == Outcome::TimedOut);
+}
+
 static void options() {
     int error = 0;
     Hub::Options none;
@@ -609,6 +643,7 @@ int main(int argc, char **argv) {
     cancels();
     resumes();
     times();
+    many_values();
     options();
     follows();
     exits();

@@ -10,7 +10,7 @@
 #include <sched.h>
 #include <stdlib.h>
 
-enum { COUNT = 1500, SENDERS = 3, SECONDS = 300 };
+enum { COUNT = 1500, MANY = 3, SENDERS = 3, SECONDS = 300 };
 
 static chanhub *hub;
 static atomic_int inside, entries, overlaps, mixed, torn;
@@ -82,13 +82,21 @@ static bool is_value_of_one(const chanhub_value *value) {
     return memcmp(value, &wanted, sizeof wanted) == 0;
 }
 
-/* Sends on port 1: by a send, by a select, or by what is begun and resumed. */
+static size_t least(size_t a, size_t b) {
+    return a < b ? a : b;
+}
+
+/* Sends on port 1: by a send, by a select, by what is begun and resumed, or many at once. */
 static void *sends_bytes(void *at) {
     unsigned pid = (unsigned)(size_t)at;
-    for (unsigned i = 0; i < COUNT; i++) {
+    chanhub_value many[MANY];
+    for (int i = 0; i < MANY; i++) many[i] = value_of(pid);
+    for (size_t i = 0, sent; i < COUNT; i += sent) {
         chanhub_case cases[2] = { { .port = 0 }, { .sends = true, .port = 1, .value = value_of(pid) } };
         chanhub_told t;
-        if (i % 3 == 0) t = chanhub_send(hub, pid, 1, cases[1].value);
+        sent = 1;
+        if (i % 4 == 3) t = chanhub_send_all(hub, pid, 1, many, least(MANY, COUNT - i), CHANHUB_NEVER, &sent);
+        else if (i % 3 == 0) t = chanhub_send(hub, pid, 1, cases[1].value);
         else if (i % 3 == 1) t = chanhub_select(hub, pid, cases, 2, false, i);
         else if ((t = chanhub_begin(hub, pid, cases, 2, false, i)).what == CHANHUB_WAITING) t = chanhub_resume(hub, pid, UINT64_MAX);
         mixed += t.what != CHANHUB_SENT;
@@ -98,9 +106,11 @@ static void *sends_bytes(void *at) {
 
 static void *receives_bytes(void *at) {
     unsigned pid = (unsigned)(size_t)at;
-    for (unsigned i = 0; i < COUNT; i++) {
-        chanhub_told t = chanhub_recv(hub, pid, 1);
-        mixed += t.what != CHANHUB_GOT || !is_value_of_one(&t.value);
+    chanhub_value many[MANY];
+    for (size_t i = 0, received; i < COUNT; i += received) {
+        chanhub_told t = chanhub_recv_up_to(hub, pid, 1, many, least(MANY, COUNT - i), CHANHUB_NEVER, &received);
+        if (t.what != CHANHUB_GOT) mixed++, received = COUNT;
+        else for (size_t k = 0; k < received; k++) mixed += !is_value_of_one(&many[k]);
     }
     return NULL;
 }

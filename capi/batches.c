@@ -12,6 +12,7 @@
 /* A call of many values while it is made. */
 struct batch {
     chanhub *hub;
+    uint64_t self; /* its process, as a set */
     uint8_t pid;
     uint16_t port;
     bool sends;
@@ -39,13 +40,17 @@ static void gather(struct batch *b) {
     b->ready = 0;
 }
 
-/* Whether the next value is known to need no wait: the buffer holds it, or has room for it. */
-static inline bool is_ready(struct batch *b) {
-    if (b->ready) return true;
+/* Looks up how many values the buffer holds, or has room for. Returns whether there are any. */
+static bool look_up(struct batch *b) {
     chanhub_counts counts = hub_c_look(&b->hub->hub, b->port);
     uint64_t held = counts.sent - counts.received;
     b->ready = b->sends ? counts.cap - held : held;
     return b->ready;
+}
+
+/* Whether the next value is known to need no wait. Then it is counted as the next one. */
+static inline bool is_ready(struct batch *b) {
+    return (b->ready || look_up(b)) && b->ready--;
 }
 
 /* Whether this process is to receive from the port in the next step of the journal. */
@@ -63,18 +68,32 @@ static bool see_to_step(struct batch *b) {
     follow_up_within(h, b->pid, &b->t);
     b->t = (struct told){ .it = b->t.it };
     if (!b->sends && h->state == FOLLOWS && !is_to_receive(b)) return false;
-    b->why = h->closer & only(b->pid) ? look_closer(h, b->pid, ANY_STEP) : 0;
+    b->why = h->closer & b->self ? look_closer(h, b->pid, ANY_STEP) : 0;
     return !b->why;
 }
 
-/* The same, for which there is mostly nothing to do. */
-static inline bool goes_on(struct batch *b) {
-    chanhub *h = b->hub;
+/* Whether nothing follows from the last step but that some are to be woken. */
+static inline bool is_quiet(struct batch *b) {
     b->ended |= b->t.ended;
-    return !(b->t.chapter | h->state | (h->closer & only(b->pid))) || see_to_step(b);
+    return !(b->t.chapter | b->hub->state | (b->hub->closer & b->self));
 }
 
-/* Whether the step of a value is to be made again. What was known of the port is forgotten, since the lock was let go of. */
+/* Makes the steps of a value with the deadline of the call. */
+static void step_until(struct batch *b, const chanhub_value *value) {
+    chanhub_case one = { .sends = b->sends, .port = b->port };
+    if (value) one.value = *value;
+    call_until(b->hub, b->pid, &one, 1, 0, b->deadline, &b->t);
+    b->ready = 0;
+}
+
+/* Makes the step of a value that is sent, or of one that is received. A journal that is followed says what a call with a deadline did. */
+static inline void step(struct batch *b, const chanhub_value *value) {
+    if (b->deadline != FOR_EVER && (b->hub->state || !is_ready(b))) step_until(b, value);
+    else if (value) hub_c_send(&b->hub->hub, b->pid, b->port, value, &b->t);
+    else hub_c_recv(&b->hub->hub, b->pid, b->port, &b->t);
+}
+
+/* Whether the last step is to be made again. What was known of the port is forgotten, since the lock was let go of. */
 static inline bool is_again(struct batch *b) {
     if (!is_to_be_made_again(b->hub, b->pid, &b->t)) return false;
     b->t = (struct told){ 0 };
@@ -82,43 +101,26 @@ static inline bool is_again(struct batch *b) {
     return true;
 }
 
-/* Makes the step of a value for which there is no deadline, or that needs no wait. */
-static inline void step_once(struct batch *b, const chanhub_value *value) {
-    if (b->sends) hub_c_send(&b->hub->hub, b->pid, b->port, value, &b->t);
-    else hub_c_recv(&b->hub->hub, b->pid, b->port, &b->t);
-    b->ready -= b->ready > 0;
-}
-
-/* Makes the steps of a value with the deadline of the call. */
-static void step_until(struct batch *b, const chanhub_value *value) {
-    chanhub_case one = { .sends = b->sends, .port = b->port };
-    if (b->sends) one.value = *value;
-    call_until(b->hub, b->pid, &one, 1, 0, b->deadline, &b->t);
-    b->ready = 0;
-}
-
-/* Waits for the answer of a step that parked. */
-static void await(struct batch *b) {
+/* Makes the step of a value again while it is to be, and waits for its answer if it parked. Returns whether it did. */
+static bool see_to_answer(struct batch *b, const chanhub_value *value) {
+    while (is_again(b)) step(b, value);
+    if (b->t.it.what != CHANHUB_WAITING) return false;
     gather(b);
     b->t = (struct told){ .it = await_answer(b->hub, b->pid, &b->t, b->nanoseconds) };
+    return true;
 }
 
-/* Sends a value, or receives one. Returns whether that is answered at once; otherwise waits for the answer. A journal that is followed
- * says what a call with a deadline did. */
-static inline bool pass(struct batch *b, const chanhub_value *value) {
-    do {
-        if (b->deadline == FOR_EVER || (!b->hub->state && is_ready(b))) step_once(b, value);
-        else step_until(b, value);
-    } while (is_again(b));
-    bool parked = b->t.it.what == CHANHUB_WAITING;
-    if (parked) await(b);
-    return !parked;
+/* Sends a value. Returns whether it was sent. */
+static inline bool send_one(struct batch *b, const chanhub_value *value) {
+    step(b, value);
+    if (b->t.it.what != CHANHUB_SENT) see_to_answer(b, value);
+    return b->t.it.what == CHANHUB_SENT;
 }
 
 /* Receives a value that the buffer holds. Returns whether it did. */
 static inline bool recv_held(struct batch *b) {
     while (is_ready(b)) {
-        step_once(b, NULL);
+        hub_c_recv(&b->hub->hub, b->pid, b->port, &b->t);
         if (!is_again(b)) return b->t.it.what == CHANHUB_GOT;
     }
     return false;
@@ -137,7 +139,8 @@ static chanhub_told end(struct batch *b) {
 static chanhub_told send_all(chanhub *h, unsigned pid, unsigned port, const chanhub_value *values, size_t count, uint64_t deadline,
                              uint64_t nanoseconds, size_t *sent) {
     struct batch b = {
-        .hub = h, .pid = (uint8_t)pid, .port = (uint16_t)port, .sends = true, .deadline = deadline, .nanoseconds = nanoseconds
+        .hub = h, .self = only(pid), .pid = (uint8_t)pid, .port = (uint16_t)port, .sends = true, .deadline = deadline,
+        .nanoseconds = nanoseconds
     };
     size_t done = 0;
     if (sent) *sent = 0;
@@ -146,8 +149,7 @@ static chanhub_told send_all(chanhub *h, unsigned pid, unsigned port, const chan
     if (!why && !count) return (chanhub_told){ .what = CHANHUB_SENT };
     if (!why) why = enter(h, pid, ANY_STEP);
     if (why) return refused(h, why);
-    do pass(&b, &values[done]);
-    while (b.t.it.what == CHANHUB_SENT && ++done < count && goes_on(&b));
+    while (send_one(&b, &values[done]) && ++done < count && (is_quiet(&b) || see_to_step(&b)));
     if (sent) *sent = done;
     chanhub_told last = end(&b);
     return b.why ? refused(h, b.why) : last;
@@ -155,16 +157,19 @@ static chanhub_told send_all(chanhub *h, unsigned pid, unsigned port, const chan
 
 static chanhub_told recv_up_to(chanhub *h, unsigned pid, unsigned port, chanhub_value *values, size_t most, uint64_t deadline,
                                uint64_t nanoseconds, size_t *received) {
-    struct batch b = { .hub = h, .pid = (uint8_t)pid, .port = (uint16_t)port, .deadline = deadline, .nanoseconds = nanoseconds };
+    struct batch b = {
+        .hub = h, .self = only(pid), .pid = (uint8_t)pid, .port = (uint16_t)port, .deadline = deadline, .nanoseconds = nanoseconds
+    };
     size_t done = 0;
     if (received) *received = 0;
     uint8_t why = values && most ? refusal(&b, pid, port) : CHANHUB_BAD_CALL;
     if (!why) why = enter(h, pid, ANY_STEP);
     if (why) return refused(h, why);
-    bool at_once = pass(&b, NULL);
+    step(&b, NULL);
+    bool waited = see_to_answer(&b, NULL);
     if (b.t.it.what != CHANHUB_GOT) return end(&b);
     do values[done++] = b.t.it.value;
-    while (at_once && done < most && goes_on(&b) && recv_held(&b));
+    while (!waited && done < most && (is_quiet(&b) || see_to_step(&b)) && recv_held(&b));
     if (received) *received = done;
     b.t.it = (chanhub_told){ .what = CHANHUB_GOT, .value = values[done - 1] };
     return end(&b);

@@ -3,7 +3,7 @@
  *     batches alone             by one thread: each step that the journal has, each answer, and what is refused
  *     batches threads           by several: calls that wait in the middle, and how each of these ends; all values in order
  *     batches followed [RUNS]   random runs, 200 if their number is not given: each is recorded and followed, with the same answers
- *     batches endless FOLDER    the same values on a hub that hands out chapters of 7 steps: FOLDER/chapter.0, .1, ..
+ *     batches endless FOLDER    values with deadlines on a hub that hands out chapters of 7 steps: FOLDER/chapter.0, .1, ..
  *
  * A test that hangs is ended by an alarm.
  */
@@ -400,6 +400,12 @@ struct worker {
 };
 
 static size_t each = EACH;
+static bool is_timed; /* whether some calls have a deadline, soon or far off */
+
+static uint64_t draw_deadline(uint32_t *seed) {
+    uint32_t dice = is_timed ? draw(seed, 3) : 0;
+    return dice == 0 ? NEVER : dice == 1 ? FAR_OFF : chanhub_in(draw(seed, 100000));
+}
 
 static void *send_each(void *at) {
     struct worker *w = at;
@@ -408,8 +414,9 @@ static void *send_each(void *at) {
         all = 1 + draw(&w->seed, MOST);
         if (all > each + 1 - next) all = each + 1 - next;
         for (size_t i = 0; i < all; i++) mine[i] = chanhub_number((uint64_t)w->pid << 32 | (next + i));
-        chanhub_told t = chanhub_send_all(hub, w->pid, 1, mine, all, NEVER, &done);
-        if (t.what != CHANHUB_SENT || done != all) is("sent", t.what, CHANHUB_SENT), exit(1);
+        chanhub_told t = chanhub_send_all(hub, w->pid, 1, mine, all, draw_deadline(&w->seed), &done);
+        bool is_right = t.what == CHANHUB_SENT ? done == all : is_timed && t.what == CHANHUB_TIMED_OUT && done < all;
+        if (!is_right) is("sent", t.what, CHANHUB_SENT), exit(1);
     }
     chanhub_exit(hub, w->pid);
     return NULL;
@@ -418,8 +425,10 @@ static void *send_each(void *at) {
 static void *receive_each(void *at) {
     struct worker *w = at;
     chanhub_value mine[MOST];
-    size_t done;
-    while (chanhub_recv_up_to(hub, w->pid, 1, mine, 1 + draw(&w->seed, MOST), NEVER, &done).what == CHANHUB_GOT) {
+    chanhub_told t;
+    for (size_t done;;) {
+        t = chanhub_recv_up_to(hub, w->pid, 1, mine, 1 + draw(&w->seed, MOST), draw_deadline(&w->seed), &done);
+        if (t.what != CHANHUB_GOT && t.what != CHANHUB_TIMED_OUT) break;
         for (size_t i = 0; i < done; i++) {
             uint64_t sender = mine[i].number >> 32, number = mine[i].number & UINT32_MAX;
             if (number <= w->got[sender]) is("in order", (long long)number, (long long)w->got[sender] + 1);
@@ -427,6 +436,7 @@ static void *receive_each(void *at) {
         }
         w->count += done;
     }
+    is("no more", t.what, CHANHUB_DRAINED);
     chanhub_exit(hub, w->pid);
     return NULL;
 }
@@ -466,12 +476,16 @@ static void without_end(const char *folder) {
     char name[4096];
     snprintf(name, sizeof name, "%s/chapter", folder);
     chanhub_files files = { .name = name };
-    each = 2000;
-    if (chanhub_open_endless(&hub, 2, SENDERS + RECEIVERS + 1, 7, chanhub_write_chapter, &files)) exit(2);
+    chanhub_options options = {
+        .procs = SENDERS + RECEIVERS + 1, .keep = 7, .chapters = chanhub_write_chapter, .pointer = &files, .clock = true
+    };
+    if (chanhub_open_with(&hub, &options)) exit(2);
+    is_timed = true;
+    each = 1000;
     pass_all(3, RECEIVERS);
     chanhub_free(hub);
     is("written", files.error, 0);
-    is("chapters", files.next > 1000, 1);
+    is("chapters", files.next > 800, 1);
 }
 
 /* ---- Random runs that are recorded and followed. ---- */

@@ -109,7 +109,7 @@ static void *receives_bytes(void *at) {
     chanhub_value many[MANY];
     for (size_t i = 0, received; i < COUNT; i += received) {
         chanhub_told t = chanhub_recv_up_to(hub, pid, 1, many, least(MANY, COUNT - i), CHANHUB_NEVER, &received);
-        if (t.what != CHANHUB_GOT) mixed++, received = COUNT;
+        if (t.what != CHANHUB_GOT) received = COUNT, mixed++;
         else for (size_t k = 0; k < received; k++) mixed += !is_value_of_one(&many[k]);
     }
     return NULL;

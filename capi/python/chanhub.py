@@ -27,8 +27,8 @@ A stall ends several calls at once. In a test, the first thread that catches Sta
             file.exists() or file.write_bytes(hub.journal())
         raise
 
-A value is an int of 64 bits or up to 32 bytes. A hub that is opened with `objects=True` passes any object instead. A port has the names
-of queue.Queue, can be iterated, and can be awaited:
+A value is an int of 64 bits or up to 32 bytes. `send_all` and `recv_up_to` pass many by one call, which takes less time for each. A hub
+that is opened with `objects=True` passes any object instead. A port has the names of queue.Queue, can be iterated, and can be awaited:
 
     with Hub(procs=2, objects=True) as hub:
         jobs = hub.seat(0).make(1)                  # a Port, through which process 0 acts
@@ -87,7 +87,7 @@ from queue import Empty, Full, SimpleQueue
 from threading import get_ident
 from time import monotonic_ns
 from typing import (Any, AsyncIterator, Callable, DefaultDict, Deque, Dict, Iterable, Iterator, List, NamedTuple, Optional, Sequence,
-                    Tuple, Union)
+                    Set, Tuple, Union)
 
 Value = Union[int, bytes]
 # The types that can be sent. A bool is sent as the number 0 or 1; a bytearray or a memoryview is received as bytes.
@@ -115,10 +115,11 @@ OPENING_TIMED = {1: 'the number of processes must be between 1 and 63, since tim
 class Ended(Exception):
     """Base class of the exceptions of a call that ended without a value, except Fault.
 
-    For Closed and Drained, `index` is the index of the case.
+    For Closed and Drained, `index` is the index of the case. `sent` is how many values a `send_all` had sent before.
     """
 
     words = 'the call ended without a value'
+    sent = 0
 
     def __init__(self, index: int = 0) -> None:
         super().__init__(index)
@@ -168,7 +169,10 @@ class HubEnded(Ended, ValueError):
 
 
 class Fault(Exception):
-    """Raised by a call that the hub did not carry out. `number` says why; it is a key of FAULTS."""
+    """Raised by a call that the hub did not carry out. `number` says why; it is a key of FAULTS. `sent` is how many values a `send_all`
+    had sent before."""
+
+    sent = 0
 
     def __init__(self, number: int) -> None:
         super().__init__(number)
@@ -219,13 +223,18 @@ class Counts(NamedTuple):
     closed: bool
 
 
-class _Told(ctypes.Structure):
-    """chanhub_told, with the members of its value inline."""
-    _fields_ = [('what', ctypes.c_uint8), ('fault', ctypes.c_uint8), ('index', ctypes.c_uint8), ('port', ctypes.c_uint16),
-                ('number', ctypes.c_uint64), ('is_bytes', ctypes.c_bool), ('length', ctypes.c_uint8), ('bytes', ctypes.c_uint8 * 32)]
+class _Value(ctypes.Structure):
+    """chanhub_value."""
+    _fields_ = [('number', ctypes.c_uint64), ('is_bytes', ctypes.c_bool), ('length', ctypes.c_uint8), ('bytes', ctypes.c_uint8 * 32)]
 
     def value(self) -> Value:
         return bytes(self.bytes[:self.length]) if self.is_bytes else int(self.number)
+
+
+class _Told(ctypes.Structure):
+    """chanhub_told."""
+    _fields_ = [('what', ctypes.c_uint8), ('fault', ctypes.c_uint8), ('index', ctypes.c_uint8), ('port', ctypes.c_uint16),
+                ('value', _Value)]
 
 
 # The layouts of chanhub_case for a receive, a send of a number, and a send of bytes. Each begins with `sends` and the port.
@@ -272,6 +281,8 @@ def _library() -> ctypes.CDLL:
             ('make', _Told, [hub, number, ctypes.c_uint32]),
             ('begin', _Told, [hub, number, ctypes.c_char_p, ctypes.c_size_t, ctypes.c_bool, ctypes.c_uint64]),
             ('begin_until', _Told, [hub, number, ctypes.c_char_p, ctypes.c_size_t, ctypes.c_bool, ctypes.c_uint64, ctypes.c_uint64]),
+            ('begin_send_all', _Told, [hub, number, number, ctypes.c_void_p, ctypes.c_size_t, ctypes.c_uint64, size]),
+            ('begin_recv_up_to', _Told, [hub, number, number, ctypes.c_void_p, ctypes.c_size_t, ctypes.c_uint64, size]),
             ('expire', ctypes.c_bool, [hub, number]),
             ('turn', ctypes.c_bool, [hub, number, ctypes.c_uint64]),
             ('stop', None, [hub]),
@@ -310,7 +321,7 @@ def _calls_type() -> Any:
         loader.exec_module(module)
     except ImportError:
         return _Calls
-    names = 'begin', 'begin_until', 'resume', 'turn', 'make', 'close', 'cancel', 'start', 'reopen'
+    names = 'begin', 'begin_until', 'begin_send_all', 'begin_recv_up_to', 'resume', 'turn', 'make', 'close', 'cancel', 'start', 'reopen'
     functions = (getattr(_LIBRARY, 'chanhub_' + name) for name in names)
     module.use(tuple(ctypes.cast(function, ctypes.c_void_p).value for function in functions), _case, Fired, Fault)
     return module.Calls
@@ -322,7 +333,8 @@ _begin, _begin_until, _resume = _LIBRARY.chanhub_begin, _LIBRARY.chanhub_begin_u
 _SLICE, _FOR_EVER = 50_000_000, 2 ** 64 - 1
 # The longest timeout in seconds, some 30 years. A longer one is this one.
 _LONGEST = 10 ** 9
-_MOST_PROCS = 64
+# What chanhub_calls.c calls MOST_PROCS and MOST_AT_ONCE.
+_MOST_PROCS, _MOST_AT_ONCE = 64, 2048
 # The thread that handles signals.
 _main = threading.main_thread().ident
 
@@ -350,6 +362,13 @@ def _within(name: str, number: int, most: int) -> int:
     return number
 
 
+def _up_to(most: int) -> int:
+    """Returns how many values a receive of up to `most` takes at most."""
+    if most < 1:
+        raise ValueError(f'most {most}: must be at least 1')
+    return min(most, _MOST_AT_ONCE)
+
+
 def _case(port: int, *value: Sendable) -> bytes:
     """Returns the chanhub_case that sends this value on the port, or without one receives from it."""
     if not 0 <= port <= 65535:
@@ -364,9 +383,78 @@ def _case(port: int, *value: Sendable) -> bytes:
     return _pack_bytes(True, port, True, _within('length', len(sent), 32), sent)
 
 
-# A call: its answer, once there is one, whether it is a select, and the numbers of the objects that it sends, by case.
-_Call = Tuple[List[_Told], bool, Dict[int, int]]
-_NO_CALL: _Call = [], False, {}
+class _Call:
+    """A call: its answer, once there is one, whether it is a select, and the numbers of the objects that it sends, by case."""
+
+    def __init__(self, is_select: bool, numbers: Dict[int, int]) -> None:
+        self.answer: List[Any] = []
+        self.is_select = is_select
+        self.numbers = numbers
+
+    def done(self) -> int:
+        """Returns how many of its many values were passed."""
+        return 0
+
+    def is_between(self) -> bool:
+        """Returns whether nothing of it is open in the hub, and the rest of its many values is to be asked for."""
+        return False
+
+    def got(self) -> List[Any]:
+        told = self.answer[0]
+        return [told.value.value()] if told.what == GOT else []
+
+    def unsent(self) -> List[int]:
+        """Returns the numbers of the objects that it did not send."""
+        told = self.answer[0]
+        return [number for index, number in self.numbers.items() if told.what != SENT or told.index != index]
+
+    def put(self, put: int) -> int:
+        """Returns how many objects the process has put once the call has ended, where it has put so many by now."""
+        return put
+
+
+class _Many(_Call):
+    """A call that passes many values. Its answer is what the library told last, how many values were passed before, and how many it has
+    stored as passed since: so one step of the interpreter changes all. `numbers` are those of the objects that it sends, in order."""
+
+    def __init__(self, begin: Callable[..., _Told], port: int, values: Any, deadline: int, numbers: List[int], put: int) -> None:
+        self.answer = [_BETWEEN, 0, ctypes.c_size_t()]
+        self.is_select = False
+        self.sends = begin is _LIBRARY.chanhub_begin_send_all
+        self._begin, self._port, self._values, self._deadline, self._numbers, self._put = begin, port, values, deadline, numbers, put
+
+    def done(self) -> int:
+        told, done, stored = self.answer
+        done += stored.value
+        has_waited = told.what == SENT and done < len(self._values) or told.what == GOT and done == 0  # then it is not among those
+        return int(done + has_waited)
+
+    def is_between(self) -> bool:
+        told = self.answer[0]
+        return bool(told.fault == NOT_YET or told.what == SENT and self.done() < len(self._values))
+
+    def put(self, put: int) -> int:
+        """As if each object had been sent by itself, the one that was refused too."""
+        return self._put + min(self.done() + 1, len(self._numbers))
+
+    def go_on(self, hub: Optional[int], pid: int) -> None:
+        """Asks for the rest of the values, as far as it does not wait."""
+        done = self.done()
+        rest = ctypes.addressof(self._values) + done * ctypes.sizeof(_Value)
+        self.answer[:] = [_BETWEEN, done, ctypes.c_size_t()]
+        asked = hub, pid, self._port, rest, len(self._values) - done, self._deadline, self.answer[2]
+        self.answer[:1] = starmap(self._begin, (asked,))
+
+    def got(self) -> List[Any]:
+        stored = 0 if self.sends else self.answer[2].value
+        return [value.value() for value in self._values[:stored]] or super().got()
+
+    def unsent(self) -> List[int]:
+        return self._numbers[self.done():]
+
+
+# The answer of a call of many values, where the rest is to be asked for.
+_BETWEEN = _Told(FAULT, NOT_YET)
 
 
 class _Calls:
@@ -391,16 +479,17 @@ class _Calls:
         if asked.__class__ is tuple:
             self.ask(asked[0], (asked[1:],), False, False, 0)
             asked = asked[0]
-            if self.keeps_open or self._calls[asked][0][0].what not in (SENT, GOT):
+            if self.keeps_open or self._calls[asked].answer[0].what not in (SENT, GOT):
                 return self
         call = self._calls[asked]
-        result, gone = self._result(*call), self._gone(*call)
+        result, gone, self._put[asked] = self._result(call), self._gone(call), call.put(self._put[asked])
         [*gone]  # in one step with the rest
         del self._calls[asked]
         return result
 
     def __delitem__(self, pid: int) -> None:
-        gone = self._gone(*self._calls[pid])
+        call = self._calls[pid]
+        gone, self._put[pid] = self._gone(call), call.put(self._put[pid])
         [*gone]
         del self._calls[pid]
 
@@ -415,35 +504,74 @@ class _Calls:
                     numbers[index], things[number] = number, case[1]
                 case = case[0], number
             packed += _case(*case)
-        self._ask(pid, ([], is_select, numbers), things, _begin_until if deadline else _begin,
+        self._ask(pid, _Call(is_select, numbers), things, _begin_until if deadline else _begin,
                     (self._hub, pid, packed, len(cases), default, word, *deadline))
 
     def ask_other(self, pid: int, name: str, *numbers: int) -> None:
-        self._ask(pid, ([], False, {}), {}, getattr(_LIBRARY, 'chanhub_' + name), (self._hub, pid, *numbers))
+        self._ask(pid, _Call(False, {}), {}, getattr(_LIBRARY, 'chanhub_' + name), (self._hub, pid, *numbers))
 
-    def told(self, pid: int) -> Optional[Tuple[int, int, int, int]]:
-        answer = self._calls.get(pid, _NO_CALL)[0]
-        if not answer:
+    def send_all(self, pid: int, port: int, values: Tuple[Any, ...], deadline: int = 2 ** 64 - 1) -> None:
+        _case(port)
+        put = self._put[pid]
+        numbers = [100 * (put + k) + pid for k in range(1, len(values) + 1)] if self._has_things else []
+        sent = b''.join(_case(port, value)[8:] for value in numbers or values)
+        array = (_Value * len(values)).from_buffer_copy(sent)
+        if pid >= _MOST_PROCS:
+            numbers = []
+        self._ask_many(pid, _Many(_LIBRARY.chanhub_begin_send_all, port, array, deadline, numbers, put), dict(zip(numbers, values)))
+
+    def recv_up_to(self, pid: int, port: int, most: int, deadline: int = 2 ** 64 - 1) -> None:
+        _case(port)
+        array = (_Value * min(most, _MOST_AT_ONCE))()
+        self._ask_many(pid, _Many(_LIBRARY.chanhub_begin_recv_up_to, port, array, deadline, [], self._put[pid]), {})
+
+    def told(self, pid: int) -> Optional[Tuple[int, int, int, int, int]]:
+        call = self._calls.get(pid)
+        if call is None or not call.answer:
             return None
-        told = answer[0]
-        return told.what, told.fault, told.index, told.port or told.number
+        told = call.answer[0]
+        if call.is_between():
+            return WAITING, 0, 0, 0, call.done()
+        return told.what, told.fault, told.index, told.port or told.value.number, call.done()
 
     def wait(self, pid: int, nanoseconds: int) -> bool:
-        answer = self._calls.get(pid, _NO_CALL)[0]
+        call = self._calls.get(pid)
         if pid in self._awaited:
             return False
-        if answer and answer[0].what == WAITING:
+        if call and call.answer and (call.is_between() or call.answer[0].what == WAITING):
             self._awaited[pid] = True
             try:
-                answer[:] = starmap(_resume, ((self._hub, pid, nanoseconds),))
+                if not call.is_between():
+                    call.answer[:1] = starmap(_resume, ((self._hub, pid, nanoseconds),))
+                if isinstance(call, _Many) and nanoseconds:
+                    self._go_on(pid, call)
             finally:
                 del self._awaited[pid]
         return True
 
+    def _ask_many(self, pid: int, call: _Many, things: Dict[int, Any]) -> None:
+        if pid in self._calls:
+            raise Fault(BUSY)
+        unsent = map(self._things.pop, things, repeat(None)) if things else ()
+        try:
+            self._things.update(things)
+            self._calls[pid] = call
+        finally:
+            if pid not in self._calls:
+                [*unsent]
+        self.wait(pid, _SLICE)
+
+    def _go_on(self, pid: int, call: _Many) -> None:
+        """Asks for the rest of a call of many values, as far as it does not wait. It is a function for the reason that `_give_all` is."""
+        while call.is_between():
+            call.go_on(self._hub, pid)
+            if call.answer[0].fault == NOT_YET:
+                _LIBRARY.chanhub_turn(self._hub, pid, _SLICE)
+
     def _ask(self, pid: int, call: _Call, things: Dict[int, Any], function: Callable[..., _Told], asked: Tuple[Any, ...]) -> None:
         if pid in self._calls:
             raise Fault(BUSY)
-        answer, put = call[0], len(things)
+        answer, put = call.answer, len(things)
         unsent = map(self._things.pop, things, repeat(None)) if things else ()
         self._calls[pid] = call
         try:
@@ -466,23 +594,20 @@ class _Calls:
             _LIBRARY.chanhub_turn(self._hub, pid, _SLICE)
             answer[:] = starmap(function, (asked,))
 
-    def _result(self, answer: List[_Told], is_select: bool, _: Dict[int, int]) -> Any:
+    def _result(self, call: _Call) -> Any:
         """Returns the result of an answer that is no exception."""
-        told = answer[0]
+        told = call.answer[0]
         if told.what == MADE:
             return told.port
-        value = None
-        if told.what == GOT:
-            value = self._things[told.number] if self._has_things else told.value()
-        return Fired(told.index, value) if is_select and told.what != DEFAULT else value
+        got = [self._things[number] for number in call.got()] if self._has_things else call.got()
+        if isinstance(call, _Many):
+            return None if call.sends else got
+        value = got[0] if got else None
+        return Fired(told.index, value) if call.is_select and told.what != DEFAULT else value
 
-    def _gone(self, answer: List[_Told], _: bool, numbers: Dict[int, int]) -> Iterable[Any]:
-        """Returns what removes the objects that are no longer in the hub after the call: those it did not send, and the one it received."""
-        if not self._has_things:
-            return ()
-        told = answer[0]
-        gone = [number for index, number in numbers.items() if told.what != SENT or told.index != index]
-        return map(self._things.pop, gone + [told.number] * (told.what == GOT), repeat(None))
+    def _gone(self, call: _Call) -> Iterable[Any]:
+        """Returns what removes the objects that are no longer in the hub after the call: those it did not send, and those it received."""
+        return map(self._things.pop, call.unsent() + call.got(), repeat(None)) if self._has_things else ()
 
 
 _CallsType = _calls_type()
@@ -825,8 +950,9 @@ class Hub:
         # How many stalls each process was told, and how many any was when the hub ended.
         self._stalls: DefaultDict[int, int] = defaultdict(int)
         self._seen_stalls = 0
-        # For each process that is awaited, the thread that makes its calls.
+        # For each process that is awaited, the thread that makes its calls, and what that is still to do.
         self._executors: Dict[int, ThreadPoolExecutor] = {}
+        self._handed: DefaultDict[int, Set[Future[Any]]] = defaultdict(set)
         # For each process and port, the receives that were begun for a task that was cancelled.
         self._unclaimed: DefaultDict[Tuple[int, int], Deque[Future[Any]]] = defaultdict(deque)
         self._free = weakref.finalize(self, _free, handle, self._opener, self._chapters)
@@ -949,7 +1075,7 @@ class Hub:
             self._settle()
         self._give_fallen()
 
-    def _error(self, pid: int, what: int, fault: int, index: int, number: int) -> Exception:
+    def _error(self, pid: int, what: int, fault: int, index: int, number: int) -> Union[Ended, Fault]:
         """Returns the exception for this answer. A stall that another process was told before the hub ended was none of the end."""
         if fault == DIVERGED:
             return Diverged(number, (self._text(_LIBRARY.chanhub_divergence) or b'').decode())
@@ -1051,8 +1177,8 @@ class Seat:
         other call of the process raises Fault 3."""
         return self.hub._calls.told(self.pid) is not None
 
-    def resume(self) -> Union[None, Value, Fired]:
-        """Resumes the wait of the call that Ctrl-C interrupted, and returns or raises what that call would have.
+    def resume(self) -> Any:
+        """Resumes the wait of the call that Ctrl-C interrupted, and returns or raises what that call would have. A `send_all` goes on.
 
         Raises Fault 12 if there is no such call, and Fault 3 if another thread is waiting for its answer.
         """
@@ -1063,14 +1189,13 @@ class Seat:
                 raise Fault(NOT_PARKED)
             if not hub._calls.wait(self.pid, 0):
                 raise Fault(BUSY)
-        result: Union[None, Value, Fired] = self._result()
-        return result
+        return self._result()
 
     def make(self, cap: int) -> Port:
         """Makes a channel that buffers up to `cap` values, 0 to 1,024, and returns its port. Ports are numbered from 1."""
         calls = self.hub._caller()
         calls.ask_other(self.pid, 'make', _within('capacity', cap, 2 ** 32 - 1))
-        port = Port(self._told()[-1], self)
+        port = Port(self._told()[3], self)
         del calls[self.pid]
         return port
 
@@ -1101,6 +1226,23 @@ class Seat:
         calls = self.hub._live or self.hub._caller()
         got = calls[self.pid, port]
         return self._result() if got is calls else got
+
+    def send_all(self, port: int, values: Iterable[Any], timeout: Optional[float] = None) -> None:
+        """Sends these values in their order, and waits as often as it has to. It makes the same steps as a `send` of each, in less time.
+
+        The timeout is one for all. If it raises an exception of the hub, `sent` of that is how many values were sent before; the others
+        were not. If a value raises TypeError or ValueError, none is sent.
+        """
+        self._ask_many('send_all', port, tuple(values), timeout)
+        self._result()
+
+    def recv_up_to(self, port: int, most: int, timeout: Optional[float] = None) -> List[Any]:
+        """Waits for a value, and receives it and those behind it in the buffer, up to `most` and never more than 2,048. Returns them in a
+        list. A value that it had to wait for comes alone, and so does each of a port without a buffer. Raises ValueError if `most` is less
+        than 1."""
+        self._ask_many('recv_up_to', port, _up_to(most), timeout)
+        got: List[Any] = self._result()
+        return got
 
     def drain(self, port: int) -> Iterator[Any]:
         """Receives values and yields them, until the port is closed and empty."""
@@ -1149,7 +1291,7 @@ class Seat:
             _LIBRARY.chanhub_turn(handle, self.pid, _SLICE)
             told = _LIBRARY.chanhub_exit(handle, self.pid)
         if told.fault and told.fault != GONE:
-            raise self.hub._error(self.pid, told.what, told.fault, 0, told.number)
+            raise self.hub._error(self.pid, told.what, told.fault, 0, told.value.number)
 
     def start(self, other: int) -> None:
         """Starts a process again that has exited. Raises Fault 17 if it has not exited or does not exist.
@@ -1177,6 +1319,11 @@ class Seat:
         self.hub._caller().ask(self.pid, cases, is_select, default, word, *deadline)
         return self._result()
 
+    def _ask_many(self, name: str, port: int, what: Any, timeout: Optional[float] = None) -> None:
+        """Makes a call of this name, which passes many values."""
+        deadline = () if timeout is None else (self._deadline(timeout),)
+        getattr(self.hub._caller(), name)(self.pid, port, what, *deadline)
+
     def _deadline(self, timeout: float) -> int:
         """Returns the time on the library's clock at which this timeout passes."""
         if not self.hub._has_timeouts:
@@ -1190,12 +1337,12 @@ class Seat:
         self._told()
         return self.hub._calls[self.pid]
 
-    def _told(self) -> Tuple[int, int, int, int]:
+    def _told(self) -> Tuple[int, int, int, int, int]:
         """Waits for the answer of the open call, and returns it. If it is an exception, ends the call and raises that. The main thread
         waits in short slices, so that it can be interrupted: then the call stays open."""
         hub, pid, calls = self.hub, self.pid, self.hub._calls
         hub._attend()
-        told: Tuple[int, int, int, int] = calls.told(pid)
+        told: Tuple[int, int, int, int, int] = calls.told(pid)
         while told[0] == WAITING:
             calls.wait(pid, _SLICE if get_ident() == _main else _FOR_EVER)
             told = calls.told(pid)
@@ -1203,18 +1350,48 @@ class Seat:
                 raise Fault(told[1])
             hub._attend()
         if told[0] in _ENDED or told[0] == FAULT:
-            error = hub._error(pid, *told)
+            error = hub._error(pid, *told[:4])
+            error.sent = told[4]
             hub._stalls[pid] += told[0] == STALLED
             del calls[pid]
             raise error
         return told
 
+    def _begun(self, name: str, port: int, what: Any) -> Any:
+        """Begins a call that passes many values, and blocks nothing. Returns its result, or if it has to wait, a Future of that, which cannot
+        be cancelled. If the process's thread has another call to make first, or if this one might wait for its turn in a journal or give a
+        chapter, that thread makes it, unless its Future is cancelled before."""
+        hub = self.hub
+        calls = hub._caller()
+        if hub._handed[self.pid] or hub._follows or hub._chapters:
+            return self._submit(getattr(self, name), port, what)
+        self._ask_many(name, port, what)
+        if calls.told(self.pid)[0] != WAITING:
+            return self._result()
+        result: Future[Any] = Future()
+        result.set_running_or_notify_cancel()
+        self._submit(self._result).add_done_callback(lambda told: _pass_on(told, result))
+        return result
+
     def _submit(self, call: Callable[..., Any], *arguments: Any) -> Future[Any]:
         """Has the thread that makes the awaited calls of the process make this one."""
-        executors = self.hub._executors
-        if self.pid not in executors:
-            executors.setdefault(self.pid, ThreadPoolExecutor(1, f'chanhub-process-{self.pid}'))
-        return executors[self.pid].submit(call, *arguments)
+        hub = self.hub
+        if self.pid not in hub._executors:
+            hub._executors.setdefault(self.pid, ThreadPoolExecutor(1, f'chanhub-process-{self.pid}'))
+        future = hub._executors[self.pid].submit(call, *arguments)
+        handed = hub._handed[self.pid]
+        handed.add(future)
+        future.add_done_callback(handed.discard)
+        return future
+
+
+def _pass_on(told: Future[Any], result: Future[Any]) -> None:
+    """Gives what one Future has to another."""
+    error = told.exception()
+    if error is None:
+        result.set_result(told.result())
+    else:
+        result.set_exception(error)
 
 
 class Port(int):
@@ -1227,8 +1404,9 @@ class Port(int):
 
     A call that fails raises Closed, Drained, Stalled, Cancelled or Fault, as those of a Seat. Only a hub with `timeouts` takes a timeout.
 
-    In asyncio, `await port.aput(value)` and `await port.aget()` make these calls in another thread, as the process of the port's seat,
-    and `async for value in port` receives until the end. Each process has one such thread, named chanhub-process-PID, which makes its
+    In asyncio, `await port.aput(value)` and `await port.aget()` make these calls as the process of the port's seat, `asend_all` and
+    `arecv_up_to` pass many values, and `async for value in port` receives until the end. Like those of asyncio.Queue, a call that need
+    not wait goes on at once. Where it has to, a thread waits for it, named chanhub-process-PID, one for each process, which makes its
     calls one after the other. So give each task that waits a process of its own. The process counts as waiting as long as its call
     waits. While the task does something else, the process is outside the hub, and no deadlock is reported. End the hub by a `with`
     block, which ends the calls that wait: the interpreter waits for them when it exits. In a hub that follows a journal, any call waits
@@ -1277,6 +1455,14 @@ class Port(int):
         """Receives a value if that needs no wait, and raises queue.Empty otherwise."""
         return self.get(block=False)
 
+    def send_all(self, values: Iterable[Any], timeout: Optional[float] = None) -> None:
+        """Sends these values, as `seat.send_all` does."""
+        self.seat.send_all(self, values, timeout)
+
+    def recv_up_to(self, most: int, timeout: Optional[float] = None) -> List[Any]:
+        """Receives up to `most` values, at least one, as `seat.recv_up_to` does."""
+        return self.seat.recv_up_to(self, most, timeout)
+
     def close(self) -> None:
         """Closes the port. Waiting sends raise Closed, and waiting receives raise Drained."""
         self.seat.close(self)
@@ -1303,15 +1489,40 @@ class Port(int):
 
     async def aput(self, item: Any) -> None:
         """Sends a value, without blocking the event loop. If the task is cancelled meanwhile, the value may still be sent."""
-        from asyncio import wrap_future
-        await wrap_future(self.seat._submit(self.put, item))
+        await self.asend_all((item,))
 
     async def aget(self) -> Any:
         """Receives a value and returns it, without blocking the event loop. If the task is cancelled meanwhile, no value is lost: the
-        call goes on, and the next `aget` of this process on this port gets its result."""
-        from asyncio import CancelledError, wrap_future
+        call goes on, and the next `aget` or `arecv_up_to` of this process on this port gets its result."""
+        got, = await self.arecv_up_to(1)
+        return got
+
+    async def asend_all(self, values: Iterable[Any]) -> None:
+        """Sends these values, as `send_all` does, without blocking the event loop. If the task is cancelled meanwhile, they may still be
+        sent."""
+        sent = self.seat._begun('send_all', self, tuple(values))
+        if sent is not None:
+            from asyncio import wrap_future
+            await wrap_future(sent)
+
+    async def arecv_up_to(self, most: int) -> List[Any]:
+        """Receives up to `most` values, at least one, as `recv_up_to` does, without blocking the event loop. If the task is cancelled
+        meanwhile, no value is lost, as with `aget`."""
         unclaimed = self.seat.hub._unclaimed[self.seat.pid, int(self)]
-        got = unclaimed.popleft() if unclaimed else self.seat._submit(self.get)
+        most = _up_to(most)
+        got = unclaimed.popleft() if unclaimed else self.seat._begun('recv_up_to', self, most)
+        if isinstance(got, Future):
+            got = await self._claimed(got, unclaimed)
+        if len(got) > most:
+            rest: Future[List[Any]] = Future()
+            rest.set_result(got[most:])
+            unclaimed.appendleft(rest)
+        return got[:most]
+
+    @staticmethod
+    async def _claimed(got: Future[List[Any]], unclaimed: Deque[Future[List[Any]]]) -> List[Any]:
+        """Returns what a receive got. If the task is cancelled meanwhile, that is unclaimed."""
+        from asyncio import CancelledError, wrap_future
         try:
             return await wrap_future(got)
         except CancelledError:

@@ -16,7 +16,7 @@ import time
 import unittest
 
 import chanhub
-from chanhub import Cancelled, Closed, Counts, Drained, Fault, Fired, Hub, HubEnded, Recv, Send, Stalled, Table
+from chanhub import Cancelled, Closed, Counts, Drained, Fault, Fired, Hub, HubEnded, Recv, Seat, Send, Stalled, Table
 from rigs import Worker
 
 HERE = pathlib.Path(__file__).resolve().parent
@@ -161,6 +161,118 @@ class Calls(unittest.TestCase):
             got = [seat.recv(port) for _ in sent]
             self.assertEqual(got, [0, 2 ** 64 - 1, 1, b'a\0b', b'ace', bytes(32)])
             self.assertEqual([type(value) for value in got], [int, int, int, bytes, bytes, bytes])
+
+    def test_many_values_go_by_one_call(self):
+        sent = (0, 2 ** 64 - 1, True, bytearray(b'a\0b'), memoryview(b'abcdef')[::2], bytes(32), b'')
+        with Hub(procs=1) as hub:
+            seat = hub.seat(0)
+            port = seat.make(9)
+            seat.send_all(port, iter(sent))
+            self.assertEqual(port.recv_up_to(3), [0, 2 ** 64 - 1, 1])
+            port.send_all([7])
+            got = seat.recv_up_to(port, 10 ** 30)
+            self.assertEqual(got, [b'a\0b', b'ace', bytes(32), b'', 7])
+            self.assertEqual([type(value) for value in got], [bytes, bytes, bytes, bytes, int])
+            seat.send_all(port, [])
+            self.assertEqual(hub.look(port), Counts(9, 8, 8, False))
+
+    def test_many_values_are_the_steps_of_each(self):
+        with Hub(procs=1) as hub, Hub(procs=1) as other:
+            for seat, send_all, recv_up_to in (
+                    (hub.seat(0), Seat.send_all, Seat.recv_up_to),
+                    (other.seat(0), lambda *these: [Seat.send(*these[:2], value) for value in these[2]],
+                     lambda seat, port, most: [seat.recv(port) for _ in range(most)])):
+                port = seat.make(3)
+                send_all(seat, port, [1, b'b'])
+                self.assertEqual(recv_up_to(seat, port, 2), [1, b'b'])
+            self.assertEqual(hub.journal(), other.journal())
+
+    def test_a_refused_value_of_many_is_told_before_any_is_sent(self):
+        with Hub(procs=1) as hub:
+            port = hub.seat(0).make(9)
+            for refused in ((300,), 'a', None, 1.0):
+                self.assertRaises(TypeError, port.send_all, [1, refused])
+            for refused in (-1, 2 ** 64, bytes(33), bytearray(33)):
+                self.assertRaises(ValueError, port.send_all, [1, refused])
+            for call in (lambda: port.recv_up_to(0), lambda: port.recv_up_to(-1), lambda: hub.seat(0).send_all(65536, []),
+                         lambda: hub.seat(0).recv_up_to(-1, 1)):
+                self.assertRaises(ValueError, call)
+            self.assertRaises(TypeError, port.send_all, 5)
+            self.assertFalse(port.seat.waits)
+            self.assertEqual(hub.look(port).sent, 0)
+
+    def test_an_exception_tells_how_many_of_many_were_sent(self):
+        with Hub(procs=2, limit=10) as hub:
+            seat, other = hub.seat(0), hub.seat(1)
+            port = seat.make(2)
+            for raised, number, sent in ((Fault, 5, 0), (Stalled, None, 2), (Closed, None, 0), (Fault, 10, 0)):
+                if raised is Closed:
+                    port.close()
+                if raised is Stalled:
+                    other.exit()
+                with self.assertRaises(raised) as told:
+                    while True:
+                        seat.send_all(9 if number == 5 else port, [1, 2, 3])
+                        self.assertEqual(number, 10)
+                self.assertEqual(told.exception.sent, sent)
+                if raised is Closed:
+                    self.assertEqual(seat.recv_up_to(port, 9), [1, 2])
+                    self.assertRaises(Drained, seat.recv_up_to, port, 9)
+                    hub, port = Hub(procs=1, limit=3), None
+                    seat = hub.seat(0)
+                    port = seat.make(1000)
+                    seat.send_all(port, [1, 2])
+
+    def test_many_values_are_sent_until_the_journal_is_full(self):
+        with Hub(procs=1, limit=4) as hub:
+            port = hub.seat(0).make(9)
+            with self.assertRaises(Fault) as told:
+                port.send_all(range(9))
+            self.assertEqual((told.exception.number, told.exception.sent, port.qsize()), (10, 3, 3))
+
+    def test_many_values_wait_as_often_as_they_must(self):
+        for cap in (0, 1, 5):
+            with Hub(procs=2) as hub:
+                port = hub.seat(0).make(cap)
+                got = []
+
+                def receive():
+                    with hub.seat(1) as seat:
+                        try:
+                            while True:
+                                got.append(seat.recv_up_to(port, 3))
+                        except Drained:
+                            pass
+                thread = threading.Thread(target=receive, daemon=True)
+                thread.start()
+                port.send_all(range(200))
+                port.close()
+                hub.seat(0).exit()
+                self.assertTrue(joined([thread]))
+                self.assertEqual(sum(got, []), list(range(200)))
+                self.assertLessEqual(max(map(len, got)), 3 if cap else 1)
+
+    def test_many_values_end_in_the_middle(self):
+        for raised, end in ((Closed, lambda hub: hub.seat(1).close(1)), (Cancelled, lambda hub: hub.seat(1).cancel(0)),
+                            (Stalled, lambda hub: hub.seat(1).exit()), (HubEnded, lambda hub: hub.__exit__())):
+            hub = Hub(procs=2)
+            port = hub.seat(0).make(2)
+            told = []
+
+            def send():
+                try:
+                    port.send_all(range(9))
+                except (chanhub.Ended, Fault) as error:
+                    told.append(error)
+            thread = threading.Thread(target=send, daemon=True)
+            thread.start()
+            until(lambda: b'\n0 send 1 2\n' in hub.journal())
+            self.assertEqual(hub.seat(1).recv(port), 0)
+            until(lambda: b'\n0 send 1 3\n' in hub.journal())
+            end(hub)
+            self.assertTrue(joined([thread]))
+            self.assertEqual([(type(error), error.sent) for error in told], [(raised, 3)])
+            self.assertFalse(port.seat.waits)
 
     def test_exceptions_say_what_happened(self):
         said = [str(ended(3)) for ended in (Closed, Drained, Stalled, Cancelled, HubEnded)]
@@ -441,6 +553,16 @@ class Chapters(unittest.TestCase):
             thread.join(LONG)
         self.assertEqual(got, [7])
         self.assertEqual(history(chapters)[1], ['0 make 0', '1 recv 1', '0 send 1 7', '0 exit', '1 exit'])
+
+    def test_many_values_make_many_chapters(self):
+        chapters = []
+        with Hub(procs=1, keep=3, chapters=chapters.append) as hub:
+            seat = hub.seat(0)
+            port = seat.make(50)
+            seat.send_all(port, range(40))
+            self.assertEqual(seat.recv_up_to(port, 50), list(range(40)))
+        lines = ['0 make 50', *(f'0 send 1 {number}' for number in range(40)), *['0 recv 1'] * 40, '0 exit']
+        self.assertEqual(history(chapters)[1], lines)
 
     def test_more_steps_than_another_hub_makes(self):
         chapters = collections.Counter()
@@ -1050,11 +1172,17 @@ class Interrupts(unittest.TestCase):
                 with hub.seat(1) as other:
                     until(lambda: b'\n0 recv 2\n' in hub.journal())
                     other.send(2, 7)
+                    for count in (1, 2):
+                        until(lambda: hub.journal().count(b'\n0 send 2 ') == count)
+                        other.recv(2)
             thread = threading.Thread(target=answer)
             thread.start()
             for call in (lambda: seat.make(1), lambda: seat.make(0), lambda: seat.send(1, 8), lambda: seat.select([Recv(0), Recv(1)]),
                          lambda: seat.select([Recv(1)], default=True), lambda: seat.send(1, b'9', timeout=LONG),
-                         lambda: seat.send(1, 10, timeout=0), lambda: seat.recv(1, timeout=LONG), lambda: seat.recv(2), thread.join,
+                         lambda: seat.send(1, 10, timeout=0), lambda: seat.recv(1, timeout=LONG), lambda: seat.recv(2),
+                         lambda: seat.send_all(2, [15, 16]), thread.join, lambda: seat.send_all(1, [17, 18]),
+                         lambda: seat.send_all(1, [19], timeout=0), lambda: seat.recv_up_to(1, 9),
+                         lambda: seat.recv_up_to(1, 9, timeout=0), lambda: seat.send_all(1, []),
                          lambda: seat.recv(1), lambda: seat.select([Send(0, 11), Send(1, 12), Send(1, 13)]), lambda: seat.recv(1),
                          lambda: seat.cancel(1), lambda: seat.close(1), lambda: seat.recv(1), lambda: seat.send(1, 14)):
                 before = own_things()
@@ -1075,6 +1203,7 @@ class Interrupts(unittest.TestCase):
         for objects in (False, True):
             _, *without = self.each_call(objects, NOWHERE)
             self.assertEqual(without[0], ['1', '2', 'None', 'Fired(index=1, value=8)', 'None', 'None', 'TimedOut(0)', "b'9'", '7', 'None',
+                                          'None', 'Stalled(0)', 'TimedOut(0)', '[17]', 'TimedOut(0)', 'None',
                                           'Stalled(0)', 'Fired(index=1, value=None)', '12', repr(Fault(12)), 'None', 'Drained(0)', 'Closed(0)'])
             place, signals = 0, 1
             while signals:
@@ -1108,7 +1237,7 @@ class Interrupts(unittest.TestCase):
     def is_busy(self, seat):
         self.assertTrue(seat.waits)
         for call in (lambda: seat.make(0), lambda: seat.send(1, 1), lambda: seat.recv(1), lambda: seat.select([], default=True),
-                     lambda: seat.close(1), lambda: seat.cancel(1), seat.exit):
+                     lambda: seat.close(1), lambda: seat.cancel(1), lambda: seat.send_all(1, [1]), lambda: seat.recv_up_to(1, 1), seat.exit):
             with self.assertRaises(Fault) as raised:
                 call()
             self.assertEqual(raised.exception.number, 3)
@@ -1151,6 +1280,16 @@ class Interrupts(unittest.TestCase):
             self.assertTrue(self.is_soon(seat))
             other.send(port, 8)
             self.assertEqual(seat.resume(), Fired(1, 8))
+            self.interrupted(lambda: seat.send_all(port, range(1, cap + 3)), stands(f'0 send {port} {cap + 1}'))
+            self.is_busy(seat)
+            self.assertEqual(other.recv(port), 1)
+            self.interrupted(seat.resume, stands(f'0 send {port} {cap + 2}'))
+            self.assertTrue(self.is_soon(seat))
+            self.assertEqual(other.recv_up_to(port, 9), list(range(2, cap + 3)))
+            self.assertIsNone(seat.resume())
+            self.interrupted(lambda: seat.recv_up_to(port, 9), stands(f'0 recv {port}'))
+            other.send(port, b'y')
+            self.assertEqual(seat.resume(), [b'y'])
         self.interrupted(lambda: seat.recv(port), stands(f'0 recv {port}'))
         other.close(port)
         with self.assertRaises(Drained):

@@ -210,6 +210,64 @@ class Following(unittest.TestCase):
             return got()
         self.repeats(run, 5)
 
+    def test_many_objects_at_once(self):
+        def run(hub, _):
+            ports = [hub.seat(0).make(cap) for cap in (0, 3)]
+
+            def receive():
+                got = []
+                with hub.seat(0) as seat:
+                    while sum(map(len, got)) < 20:
+                        got.append(seat.recv_up_to(ports[1], 4))
+                    return got, [seat.recv_up_to(ports[0], 4) for _ in range(20)]
+            got = self.in_thread(receive)
+            self.told_of(hub, lambda seat: [seat.send_all(port, [[seat.pid, k] for k in range(5)]) for port in reversed(ports)], 5)
+            return got()
+        self.repeats(run, 5)
+
+    def test_many_objects_that_end_in_the_middle(self):
+        def run(hub, _):
+            with hub.seat(0) as boss:
+                port = boss.make(2)
+
+            def work(seat):
+                try:
+                    if seat.pid == 1:
+                        got = seat.recv_up_to(port, 3), seat.recv_up_to(port, 3)
+                        return got, seat.close(port)
+                    return seat.send_all(port, [[seat.pid, k] for k in range(5)])
+                except Closed as closed:
+                    return closed.sent
+            return self.told_of(hub, work, 4)
+        self.repeats(run, 4)
+
+    def test_many_values_that_diverge(self):
+        hub = Hub.follow(b'chanhub journal 2\nprocs 1\n0 make 3\n0 send 1 5\n0 send 1 6\n0 close 1\n')
+        port = hub.seat(0).make(3)
+        with self.assertRaises(Diverged) as raised:
+            port.send_all([5, 6, 7])
+        self.assertEqual((raised.exception.step, raised.exception.sent), (4, 2))
+
+    def test_interrupt_of_a_turn_of_many(self):
+        hub = Hub.follow(b'chanhub journal 2\nprocs 2\n0 make 3\n0 send 1 100\n1 send 1 101\n0 send 1 200\n', objects=True)
+        zero, one = hub.seat(0), hub.seat(1)
+        port = zero.make(3)
+
+        class Interrupted(Exception):
+            pass
+
+        def interrupt(*_):
+            raise Interrupted
+        self.addCleanup(signal.signal, signal.SIGALRM, signal.signal(signal.SIGALRM, interrupt))
+        for call in (lambda: port.send_all('ab'), zero.resume):
+            signal.setitimer(signal.ITIMER_REAL, 0.1)
+            self.assertRaises(Interrupted, call)
+            self.assertTrue(zero.waits)
+        sent = self.in_thread(lambda: one.send(port, 'c'))
+        self.assertIsNone(zero.resume())
+        sent()
+        self.assertEqual(hub._things, {100: 'a', 101: 'c', 200: 'b'})
+
     def test_selects_with_random_words(self):
         def run(hub, _):
             with hub.seat(0) as boss:
@@ -249,11 +307,15 @@ class Following(unittest.TestCase):
             port = seats[0].make(1)
 
             async def send(seat):
-                for k in range(4):
+                for k in range(2):
                     await seat.port(port).aput([seat.pid, k])
+                await seat.port(port).asend_all([[seat.pid, k] for k in range(2, 4)])
 
             async def receive():
-                return [await port.aget() for _ in range(12)]
+                got = [await port.aget() for _ in range(6)]
+                while len(got) < 12:
+                    got += await port.arecv_up_to(12 - len(got))
+                return got
 
             async def main():
                 got, *_ = await asyncio.wait_for(asyncio.gather(receive(), *map(send, seats[1:])), 20)

@@ -132,6 +132,25 @@ class Timeouts(unittest.TestCase):
             self.assertEqual(port.get(timeout=SHORT), 7)
             self.assertRaises(queue.Empty, port.get, False, 100)
 
+    def test_many_values_have_one_timeout(self):
+        with Hub(procs=2, objects=True, timeouts=True) as hub:
+            ann, bob = hub.seat(0), hub.seat(1)
+            port = ann.make(2)
+            self.took(SHORT, lambda: port.recv_up_to(9, timeout=SHORT))
+            for timeout in (0, SHORT):
+                with self.assertRaises(TimedOut) as raised:
+                    port.send_all('abcd', timeout=timeout)
+                self.assertEqual((raised.exception.sent, bob.recv_up_to(port, 9, timeout=0)), (2, ['a', 'b']))
+            self.assertEqual(hub._things, {})
+            port.send_all('ab', timeout=LONG)
+            sent = in_thread(lambda: port.send_all('cde', timeout=0.2))
+            journal_with(hub, '0 send 1 900')  # each of both that were refused has had a number
+            self.assertEqual(bob.recv(port), 'a')
+            with self.assertRaises(TimedOut) as raised:
+                sent()
+            self.assertEqual((raised.exception.sent, bob.recv_up_to(port, 9)), (1, ['b', 'c']))
+            self.assertEqual(hub._things, {})
+
     def test_objects_that_are_not_sent_are_forgotten(self):
         with Hub(procs=1, objects=True, timeouts=True) as hub, hub.seat(0) as seat:
             port = seat.make(1)
@@ -145,7 +164,7 @@ class Timeouts(unittest.TestCase):
     def test_what_is_refused(self):
         with Hub(procs=1) as hub, hub.seat(0) as seat:
             port = seat.make(1)
-            for call in (lambda: seat.recv(port, timeout=1), lambda: port.put(1, timeout=1), lambda: seat.select([], timeout=0)):
+            for call in (lambda: seat.recv(port, timeout=1), lambda: port.send_all([1], timeout=1), lambda: port.recv_up_to(1, 1), lambda: port.put(1, timeout=1), lambda: seat.select([], timeout=0)):
                 self.assertRaisesRegex(ValueError, 'only a hub with `timeouts`', call)
         with Hub(procs=1, timeouts=True) as hub, hub.seat(0) as seat:
             port = seat.make(1)

@@ -51,18 +51,15 @@ func (c *Chan[T]) Len() int {
 // Send sends a value. It waits until a receiver takes the value or the buffer has room for it. It returns [ErrClosed] if the
 // channel is closed. With any error, the value was not sent.
 func (c *Chan[T]) Send(seat *Seat, value T) error {
-	return c.send(seat, value, func(number Value) error {
-		return seat.Send(c.port, number)
-	})
-}
-
-// send sends a value by a call that sends its number.
-func (c *Chan[T]) send(seat *Seat, value T, call func(number Value) error) error {
 	if err := c.isFor(seat); err != nil {
 		return err
 	}
 	number := c.put(seat, value)
-	err := call(number)
+	return c.sent(number, seat.Send(c.port, number))
+}
+
+// sent ends a send of the value with this number, which is dropped if it was not sent.
+func (c *Chan[T]) sent(number Value, err error) error {
 	if err != nil {
 		c.drop(number)
 	}
@@ -77,17 +74,14 @@ func (c *Chan[T]) TrySend(seat *Seat, value T) (sent bool, err error) {
 
 // Recv receives a value. It waits until there is one. It returns [ErrDrained] if the channel is closed and empty.
 func (c *Chan[T]) Recv(seat *Seat) (value T, err error) {
-	return c.recv(seat, func() (Value, error) {
-		return seat.Recv(c.port)
-	})
-}
-
-// recv receives a value by a call that receives its number.
-func (c *Chan[T]) recv(seat *Seat, call func() (Value, error)) (value T, err error) {
 	if err := c.isFor(seat); err != nil {
 		return value, err
 	}
-	number, err := call()
+	return c.received(seat.Recv(c.port))
+}
+
+// received returns the value whose number was received.
+func (c *Chan[T]) received(number Value, err error) (value T, _ error) {
 	if err != nil {
 		return value, err
 	}
@@ -199,7 +193,7 @@ func (c chanSend[T]) begin(seat *Seat) Case {
 
 func (c chanSend[T]) end(begun Case, hasFired bool, _ Value) {
 	if !hasFired {
-		c.drop(begun.value)
+		c.drop(Value{begun.raw.value})
 	}
 }
 
@@ -227,7 +221,7 @@ func (c *Chan[T]) isFor(seat *Seat) error {
 
 // put keeps a value that a process is to send, and returns its number.
 func (c *Chan[T]) put(seat *Seat, value T) Value {
-	number := c.hub.numberFor(seat.pid)
+	number := c.hub.numbersFor(seat.pid, 1)
 	c.lock.Lock()
 	defer c.lock.Unlock()
 	c.values[number] = value
@@ -238,17 +232,22 @@ func (c *Chan[T]) put(seat *Seat, value T) Value {
 func (c *Chan[T]) drop(number Value) {
 	c.lock.Lock()
 	defer c.lock.Unlock()
-	delete(c.values, number.number)
+	delete(c.values, number.number())
 }
 
 // take takes out the value with this number, which was received.
 func (c *Chan[T]) take(number Value) T {
 	c.lock.Lock()
 	defer c.lock.Unlock()
-	value, isThere := c.values[number.number]
-	if !isThere || number.isBytes {
+	return c.taken(number)
+}
+
+// taken takes out the value with this number. The caller holds the lock.
+func (c *Chan[T]) taken(number Value) T {
+	value, isThere := c.values[number.number()]
+	if !isThere {
 		panic("chanhub: a value came from the port of a Chan that was not sent by it")
 	}
-	delete(c.values, number.number)
+	delete(c.values, number.number())
 	return value
 }

@@ -1,6 +1,13 @@
 package chanhub
 
-// #include <chanhub.h>
+/*
+#include <chanhub.h>
+
+// A call of one case, which then need not lie on Go's heap.
+static chanhub_told begin_one(chanhub *hub, unsigned pid, chanhub_case one, uint64_t deadline) {
+	return chanhub_begin_until(hub, pid, &one, 1, false, 0, deadline);
+}
+*/
 import "C"
 
 import (
@@ -15,49 +22,51 @@ import (
 // If the context is done before the call, SendContext still sends the value if that needs no wait. If it can never be done, as
 // [context.Background], SendContext is like Send.
 func (s *Seat) SendContext(ctx context.Context, port Port, value Value) error {
-	_, err := s.callUntil(ctx, 0, []Case{SendCase(port, value)})
+	_, err := s.callUntil(ctx, SendCase(port, value))
 	return err
 }
 
 // RecvContext is like [Seat.Recv], but gives up once the context is done, as [Seat.SendContext] does.
 func (s *Seat) RecvContext(ctx context.Context, port Port) (Value, error) {
-	told, err := s.callUntil(ctx, 0, []Case{RecvCase(port)})
-	return told.value, err
+	return s.callUntil(ctx, RecvCase(port))
 }
 
 // SelectContext is like [Seat.Select], but gives up once the context is done, as [Seat.SendContext] does. The index is then -1.
 func (s *Seat) SelectContext(ctx context.Context, word uint64, cases ...Case) (index int, value Value, err error) {
-	told, err := s.callUntil(ctx, word, cases)
-	return told.caseIndex(), told.value, err
-}
-
-// callUntil makes a call of these cases, which ends at the latest when the context is done.
-func (s *Seat) callUntil(ctx context.Context, word uint64, cases []Case) (told, error) {
-	first, count := rawCases(cases)
-	told, err := s.call(func(hub *C.chanhub, pid C.uint) C.chanhub_told {
-		told := C.chanhub_begin_until(hub, pid, first, count, false, C.uint64_t(word), deadlineOf(ctx))
-		if told.what == waiting {
-			stop := s.watch(ctx)
-			told = await(hub, pid)
-			stop()
-		}
-		return told
-	})
-	if err == context.DeadlineExceeded {
-		err = errorOf(ctx)
+	if err := s.hub.enter(s.pid); err != nil {
+		return -1, Value{}, err
 	}
-	return told, err
+	first, count := raw(cases)
+	told := answer(C.chanhub_begin_until(s.hub.at, within(s.pid), first, count, false, C.uint64_t(word), deadlineOf(ctx)))
+	s.await(ctx, &told)
+	value, err = s.endOfRecv(&told)
+	return told.caseIndex(), value, errorOf(ctx, err)
 }
 
-// errorOf returns the error of a context because of which a call gave up. In a hub that follows a journal it may not be done yet.
-func errorOf(ctx context.Context) error {
+// callUntil makes a call of this case, which ends at the latest when the context is done.
+func (s *Seat) callUntil(ctx context.Context, c Case) (Value, error) {
+	if err := s.hub.enter(s.pid); err != nil {
+		return Value{}, err
+	}
+	told := answer(C.begin_one(s.hub.at, within(s.pid), c.raw, deadlineOf(ctx)))
+	s.await(ctx, &told)
+	value, err := s.endOfRecv(&told)
+	return value, errorOf(ctx, err)
+}
+
+// errorOf returns the error of a call. If it gave up, this is the error of its context, which may not be done yet in a hub that follows
+// a journal.
+func errorOf(ctx context.Context, err error) error {
+	if err != context.DeadlineExceeded {
+		return err
+	}
 	if err := ctx.Err(); err != nil {
 		return err
 	}
 	if _, hasDeadline := ctx.Deadline(); !hasDeadline {
 		return context.Canceled
 	}
-	return context.DeadlineExceeded
+	return err
 }
 
 // deadlineOf returns the library's time at which the context is done. If it has no deadline but may be cancelled, that is a time far off.
@@ -103,29 +112,37 @@ func (s *Seat) watch(ctx context.Context) (stop func()) {
 	}
 }
 
-// await waits for the answer of the open call. If there is no memory to time it out, it waits until there is.
-func await(hub *C.chanhub, pid C.uint) C.chanhub_told {
-	for {
-		told := C.chanhub_resume(hub, pid, math.MaxUint64)
-		if told.what != waiting {
-			return told
-		}
-		time.Sleep(time.Millisecond)
+// await waits for the answer of a call that was begun, if it waits, at the latest until the context is done, and reports whether it
+// waited. If there is no memory to time it out, it waits until there is.
+func (s *Seat) await(ctx context.Context, told *answer) (waited bool) {
+	if told.what != waiting {
+		return false
 	}
+	defer s.watch(ctx)()
+	for told.what == waiting {
+		*told = answer(C.chanhub_resume(s.hub.at, within(s.pid), math.MaxUint64))
+		if told.what == waiting {
+			time.Sleep(time.Millisecond)
+		}
+	}
+	return true
 }
 
 // SendContext is like [Chan.Send], but gives up once the context is done, as [Seat.SendContext] does.
 func (c *Chan[T]) SendContext(ctx context.Context, seat *Seat, value T) error {
-	return c.send(seat, value, func(number Value) error {
-		return seat.SendContext(ctx, c.port, number)
-	})
+	if err := c.isFor(seat); err != nil {
+		return err
+	}
+	number := c.put(seat, value)
+	return c.sent(number, seat.SendContext(ctx, c.port, number))
 }
 
 // RecvContext is like [Chan.Recv], but gives up once the context is done, as [Seat.SendContext] does.
 func (c *Chan[T]) RecvContext(ctx context.Context, seat *Seat) (value T, err error) {
-	return c.recv(seat, func() (Value, error) {
-		return seat.RecvContext(ctx, c.port)
-	})
+	if err := c.isFor(seat); err != nil {
+		return value, err
+	}
+	return c.received(seat.RecvContext(ctx, c.port))
 }
 
 // SelectChanContext is like [Seat.SelectChan], but gives up once the context is done, as [Seat.SendContext] does. The index is then -1.

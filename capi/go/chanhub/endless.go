@@ -76,7 +76,9 @@ func OpenEndless(edition Edition, procs, keep int, chapters Chapters) (*Hub, err
 		handler.end()
 		return nil, refusalOf(refusal, ErrKeep)
 	}
-	return &Hub{at: at, processes: make([]process, procs), isEndless: true, handler: handler}, nil
+	hub := newHub(at, procs)
+	hub.isEndless, hub.handler = true, handler
+	return hub, nil
 }
 
 // Before returns the text of the chapter before the present one. It returns nil if there is none, or if memory runs out. Only a hub

@@ -84,7 +84,7 @@ func Follow(journal []byte, goesOn bool) (*Hub, error) {
 		if C.chanhub_has_clock(at) {
 			procs-- // the clock is nobody's
 		}
-		return &Hub{at: at, processes: make([]process, procs)}, nil
+		return newHub(at, procs), nil
 	case 5, 6:
 		return nil, JournalError{Line: int(line), IsMalformed: refusal == 5}
 	}

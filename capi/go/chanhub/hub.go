@@ -39,9 +39,8 @@
 //
 // One lock orders all steps. What a goroutine wrote before a send or a close is visible to the goroutine that receives the value or
 // learns of the close. What a goroutine wrote before it received a value from a port is visible to a goroutine whose later send
-// needed the room that this receive made, whether or not that send had to wait. The race detector knows this order, since each call
-// also locks a [sync.Mutex] of the hub. But that mutex orders all calls on the hub, even those that pass no value to each other, so
-// the detector can miss some races.
+// needed the room that this receive made, whether or not that send had to wait. The race detector takes all calls on a hub to be
+// ordered, even those that pass no value to each other, so it can miss some races.
 //
 // # Values of any type
 //
@@ -88,6 +87,7 @@ import "C"
 import (
 	"math"
 	"sync"
+	"sync/atomic"
 	"unsafe"
 )
 
@@ -121,17 +121,25 @@ type Hub struct {
 	handler   *handler // nil if nothing gets the chapters
 	freed     sync.Once
 	unwritten error          // what Close returns
-	running   sync.WaitGroup // the calls in the library
-
-	lock      sync.Mutex
-	closed    bool
-	processes []process
+	closed    int32          // atomic: 1 once Close has begun
+	ordered   int32          // atomic: see order
+	processes []process      // the last stands for nobody
+	left      sync.WaitGroup // those whose calls Close waits for
 }
 
-// A process of a hub, as this package knows it.
+// A process of a hub, as this package knows it, in a line of the cache of its own.
 type process struct {
-	calling int    // the number of its calls in the library
-	given   uint64 // the number of values that it gave to Chans
+	given   uint64 // atomic: the number of values that it gave to Chans
+	calling int32  // atomic: the number of its calls in the library; less than 0 once no further one may begin
+	_       [52]byte
+}
+
+// refused is what calling counts from once no further call may begin.
+const refused = math.MinInt32
+
+// newHub returns a hub that was opened with so many processes.
+func newHub(at *C.chanhub, procs int) *Hub {
+	return &Hub{at: at, processes: make([]process, procs+1)}
 }
 
 // Open opens a hub with 1 to 64 processes. The limit (1 to 1,000,000) is the most steps that the hub makes; exits do
@@ -146,7 +154,7 @@ func Open(edition Edition, procs int, limit int) (*Hub, error) {
 	if refusal != 0 {
 		return nil, refusalOf(refusal, ErrLimit)
 	}
-	return &Hub{at: at, processes: make([]process, procs)}, nil
+	return newHub(at, procs), nil
 }
 
 // refusalOf returns the error for a hub that was not opened. The error for refusal 2 is given.
@@ -236,50 +244,49 @@ func copyOf(text *C.char, length C.size_t) []byte {
 func (h *Hub) Close() error {
 	h.freed.Do(func() {
 		h.shut()
-		h.running.Wait()
+		h.left.Wait()
 		C.chanhub_free(h.at)
 		h.unwritten = h.handler.end()
 	})
 	return h.unwritten
 }
 
-// shut lets no further call begin, ends a hub that follows a journal, exits the processes that have no running call, and ends the waits of those that have a context. The
-// others exit when their calls leave. Every process has then soon exited or is waiting, so the hub stalls the calls that wait, and none
-// is left.
+// shut lets no further call begin, ends a hub that follows a journal, exits the processes that have no running call, and ends the
+// waits of those that have a context. The others exit when their calls leave. Every process has then soon exited or is waiting, so the
+// hub stalls the calls that wait, and none is left.
 func (h *Hub) shut() {
+	atomic.StoreInt32(&h.closed, 1)
 	idle := h.refuse()
 	C.chanhub_stop(h.at)
 	for _, pid := range idle {
 		h.exit(pid)
 	}
-	for pid := range h.processes {
+	for pid := 0; h.has(pid); pid++ {
 		C.chanhub_expire(h.at, C.uint(pid))
 	}
 }
 
 func (h *Hub) isClosed() bool {
-	h.lock.Lock()
-	defer h.lock.Unlock()
-	return h.closed
+	return atomic.LoadInt32(&h.closed) == 1
 }
 
 // refuse lets no further call begin, and returns the processes that have no running call.
 func (h *Hub) refuse() (idle []int) {
-	h.lock.Lock()
-	defer h.lock.Unlock()
-	h.closed = true
-	for pid, process := range h.processes {
-		if process.calling == 0 {
+	h.left.Add(len(h.processes))
+	for pid := range h.processes {
+		if atomic.AddInt32(&h.processes[pid].calling, refused) == refused {
+			h.left.Done()
 			idle = append(idle, pid)
 		}
 	}
 	return idle
 }
 
-// exit exits a process of a closed hub. The caller does not hold the lock, since a chapter may fall out, and the function that gets
-// it may call on the hub.
+// exit exits a process of a closed hub.
 func (h *Hub) exit(pid int) {
-	C.chanhub_exit(h.at, C.uint(pid))
+	if h.has(pid) {
+		C.chanhub_exit(h.at, C.uint(pid))
+	}
 }
 
 // nobody stands for the process of Look, Journal, Before and Cut, which have none.
@@ -287,53 +294,52 @@ const nobody = -1
 
 // enter lets a call of a process into the library, or returns ErrHubClosed. The memory is kept until the call leaves.
 func (h *Hub) enter(pid int) error {
-	h.lock.Lock()
-	defer h.lock.Unlock()
-	if h.closed {
-		return ErrHubClosed
+	h.order()
+	calling := &h.process(pid).calling
+	for {
+		count := atomic.LoadInt32(calling)
+		if count < 0 {
+			return ErrHubClosed
+		}
+		if atomic.CompareAndSwapInt32(calling, count, count+1) {
+			return nil
+		}
 	}
-	h.running.Add(1)
-	if h.has(pid) {
-		h.processes[pid].calling++
-	}
-	return nil
 }
 
 // leave ends a call, and reports whether the hub is closed. If so, the process exits with the last of its calls.
 func (h *Hub) leave(pid int) (closed bool) {
-	defer h.running.Done()
-	closed, isLast := h.end(pid)
-	if closed && isLast {
+	h.order()
+	if atomic.AddInt32(&h.process(pid).calling, -1) == refused {
 		h.exit(pid)
+		h.left.Done()
 	}
-	return closed
+	return h.isClosed()
 }
 
-// end ends the count of a call, and reports whether the hub is closed and whether this was the last call of its process.
-func (h *Hub) end(pid int) (closed, isLast bool) {
-	h.lock.Lock()
-	defer h.lock.Unlock()
-	if h.has(pid) {
-		h.processes[pid].calling--
-		isLast = h.processes[pid].calling == 0
+// process returns the process with this number. If there is none, it returns nobody's.
+func (h *Hub) process(pid int) *process {
+	if !h.has(pid) {
+		pid = len(h.processes) - 1
 	}
-	return h.closed, isLast
+	return &h.processes[pid]
 }
 
 func (h *Hub) has(pid int) bool {
-	return 0 <= pid && pid < len(h.processes)
+	return 0 <= pid && pid < len(h.processes)-1
 }
 
-// numberFor returns the number of the next value that a process gives to a Chan, and 0 if there is no such process. It depends on
-// nothing that other processes do, so a run that is followed sends the same numbers.
-func (h *Hub) numberFor(pid int) uint64 {
-	if !h.has(pid) {
-		return 0 // the hub will refuse the call
-	}
-	h.lock.Lock()
-	defer h.lock.Unlock()
-	h.processes[pid].given++
-	return 100*h.processes[pid].given + uint64(pid)
+// numbersFor returns the numbers of the next values that a process gives to Chans: the first, after which each is 100 more. The hub will
+// refuse their sends if there is no such process. They depend on nothing that other processes do, so a run that is followed sends the
+// same numbers.
+func (h *Hub) numbersFor(pid, count int) (first uint64) {
+	given := atomic.AddUint64(&h.process(pid).given, uint64(count))
+	return 100*(given-uint64(count)+1) + uint64(pid)
+}
+
+// number returns the hub as a number.
+func (h *Hub) number() C.uintptr_t {
+	return C.uintptr_t(uintptr(unsafe.Pointer(h.at)))
 }
 
 // within converts a number for the library. A number that C would truncate becomes the greatest one, which the library refuses.

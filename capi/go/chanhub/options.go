@@ -60,5 +60,7 @@ func OpenWith(options Options) (*Hub, error) {
 		}
 		return nil, refusalOf(refusal, ErrLimit)
 	}
-	return &Hub{at: at, processes: make([]process, options.Procs), isEndless: options.Keep != 0, handler: handler}, nil
+	hub := newHub(at, options.Procs)
+	hub.isEndless, hub.handler = options.Keep != 0, handler
+	return hub, nil
 }

@@ -1,6 +1,18 @@
 package chanhub
 
-// #include <chanhub.h>
+/*
+#include <chanhub.h>
+
+// The calls that are made most, with the hub as a number: cgo looks closer at each pointer, and allocates for that.
+
+static chanhub_told send_to(uintptr_t hub, unsigned pid, unsigned port, chanhub_value value) {
+	return chanhub_send((chanhub *)hub, pid, port, value);
+}
+
+static chanhub_told recv_from(uintptr_t hub, unsigned pid, unsigned port) {
+	return chanhub_recv((chanhub *)hub, pid, port);
+}
+*/
 import "C"
 
 // A Seat is a handle to a process of a hub. Only one goroutine at a time may call through it; several may take turns. While a
@@ -19,44 +31,45 @@ func (s *Seat) Pid() int {
 // Make makes a channel that buffers up to capacity values, and returns its port. The capacity is from 0 to 1,024. With capacity 0,
 // each send waits for a receive.
 func (s *Seat) Make(capacity int) (Port, error) {
-	told, err := s.call(func(hub *C.chanhub, pid C.uint) C.chanhub_told {
-		return C.chanhub_make(hub, pid, C.uint32_t(within(capacity)))
-	})
-	return told.port, err
+	if err := s.hub.enter(s.pid); err != nil {
+		return 0, err
+	}
+	told := answer(C.chanhub_make(s.hub.at, within(s.pid), C.uint32_t(within(capacity))))
+	return Port(told.port), s.end(&told)
 }
 
 // Send sends a value on a port. It waits until a receiver takes the value or the buffer has room for it. It returns [ErrClosed] if
 // the port is closed.
 func (s *Seat) Send(port Port, value Value) error {
-	_, err := s.call(func(hub *C.chanhub, pid C.uint) C.chanhub_told {
-		return C.chanhub_send(hub, pid, C.uint(port), value.raw())
-	})
-	return err
+	if err := s.hub.enter(s.pid); err != nil {
+		return err
+	}
+	told := answer(C.send_to(s.hub.number(), within(s.pid), C.uint(port), value.raw))
+	return s.end(&told)
 }
 
 // Recv receives a value from a port. It waits until there is one. It returns [ErrDrained] if the port is closed and empty.
 func (s *Seat) Recv(port Port) (Value, error) {
-	told, err := s.call(func(hub *C.chanhub, pid C.uint) C.chanhub_told {
-		return C.chanhub_recv(hub, pid, C.uint(port))
-	})
-	return told.value, err
+	if err := s.hub.enter(s.pid); err != nil {
+		return Value{}, err
+	}
+	told := answer(C.recv_from(s.hub.number(), within(s.pid), C.uint(port)))
+	return s.endOfRecv(&told)
 }
 
 // A Case is a case of a select. [SendCase] and [RecvCase] return one.
 type Case struct {
-	sends bool
-	port  Port
-	value Value
+	raw C.chanhub_case
 }
 
 // SendCase returns a case that sends a value on a port.
 func SendCase(port Port, value Value) Case {
-	return Case{sends: true, port: port, value: value}
+	return Case{C.chanhub_case{sends: true, port: C.uint16_t(port), value: value.raw}}
 }
 
 // RecvCase returns a case that receives a value from a port.
 func RecvCase(port Port) Case {
-	return Case{port: port}
+	return Case{C.chanhub_case{port: C.uint16_t(port)}}
 }
 
 // Select fires one of the cases that can proceed, or waits until one can. If k cases can proceed, the one with index word % k among
@@ -77,51 +90,52 @@ func (s *Seat) TrySelect(word uint64, cases ...Case) (index int, value Value, er
 }
 
 func (s *Seat) selectOf(hasDefault bool, word uint64, cases []Case) (int, Value, error) {
-	first, count := rawCases(cases)
-	told, err := s.call(func(hub *C.chanhub, pid C.uint) C.chanhub_told {
-		return C.chanhub_select(hub, pid, first, count, C.bool(hasDefault), C.uint64_t(word))
-	})
-	return told.caseIndex(), told.value, err
+	if err := s.hub.enter(s.pid); err != nil {
+		return -1, Value{}, err
+	}
+	first, count := raw(cases)
+	told := answer(C.chanhub_select(s.hub.at, within(s.pid), first, count, C.bool(hasDefault), C.uint64_t(word)))
+	value, err := s.endOfRecv(&told)
+	return told.caseIndex(), value, err
 }
 
-// rawCases returns the cases as the library takes them.
-func rawCases(cases []Case) (first *C.chanhub_case, count C.size_t) {
-	raw := make([]C.chanhub_case, len(cases))
-	for i, c := range cases {
-		raw[i] = C.chanhub_case{sends: C.bool(c.sends), port: C.uint16_t(c.port), value: c.value.raw()}
+// raw returns the cases as the library takes them.
+func raw(cases []Case) (first *C.chanhub_case, count C.size_t) {
+	if len(cases) > 0 {
+		first = &cases[0].raw
 	}
-	if len(raw) > 0 {
-		first = &raw[0]
-	}
-	return first, C.size_t(len(raw))
+	return first, C.size_t(len(cases))
 }
 
 // Close closes a port. Waiting sends return [ErrClosed], and waiting receives return [ErrDrained]. Close returns
 // [FaultAlreadyClosed] if the port is closed already, and [FaultNilClose] for port 0.
 func (s *Seat) Close(port Port) error {
-	_, err := s.call(func(hub *C.chanhub, pid C.uint) C.chanhub_told {
-		return C.chanhub_close(hub, pid, C.uint(port))
-	})
-	return err
+	if err := s.hub.enter(s.pid); err != nil {
+		return err
+	}
+	told := answer(C.chanhub_close(s.hub.at, within(s.pid), C.uint(port)))
+	return s.end(&told)
 }
 
 // Reopen opens a port again that is closed and empty, with a buffer for up to capacity values, from 0 to 1,024. It returns [FaultInUse]
 // if the port is open or holds a value. The port keeps its number, so nobody should still use it for what it was. Reopen requires
 // [Edition3].
 func (s *Seat) Reopen(port Port, capacity int) error {
-	_, err := s.call(func(hub *C.chanhub, pid C.uint) C.chanhub_told {
-		return C.chanhub_reopen(hub, pid, C.uint(port), C.uint32_t(within(capacity)))
-	})
-	return err
+	if err := s.hub.enter(s.pid); err != nil {
+		return err
+	}
+	told := answer(C.chanhub_reopen(s.hub.at, within(s.pid), C.uint(port), C.uint32_t(within(capacity))))
+	return s.end(&told)
 }
 
 // Exit ends the process. Later calls of the process return [FaultGone], unless it is started again. Once a process has exited, a deadlock
 // among the others can be reported.
 func (s *Seat) Exit() error {
-	_, err := s.call(func(hub *C.chanhub, pid C.uint) C.chanhub_told {
-		return C.chanhub_exit(hub, pid)
-	})
-	return err
+	if err := s.hub.enter(s.pid); err != nil {
+		return err
+	}
+	told := answer(C.chanhub_exit(s.hub.at, within(s.pid)))
+	return s.end(&told)
 }
 
 // Start starts another process again, which has exited. It returns [FaultNotGone] if that process has not exited or does not exist. Start
@@ -135,33 +149,39 @@ func (s *Seat) Start(other int) error {
 		return err
 	}
 	defer s.hub.leave(other)
-	_, err := s.call(func(hub *C.chanhub, pid C.uint) C.chanhub_told {
-		return C.chanhub_start(hub, pid, within(other))
-	})
-	return err
+	if err := s.hub.enter(s.pid); err != nil {
+		return err
+	}
+	told := answer(C.chanhub_start(s.hub.at, within(s.pid), within(other)))
+	return s.end(&told)
 }
 
 // Cancel ends the waiting call of another process, which then returns [ErrCancelled]. Cancel returns [FaultNotParked] if that
 // process has no waiting call. It requires [Edition2] or [Edition3].
 func (s *Seat) Cancel(other int) error {
-	_, err := s.call(func(hub *C.chanhub, pid C.uint) C.chanhub_told {
-		return C.chanhub_cancel(hub, pid, within(other))
-	})
+	if err := s.hub.enter(s.pid); err != nil {
+		return err
+	}
+	told := answer(C.chanhub_cancel(s.hub.at, within(s.pid), within(other)))
+	return s.end(&told)
+}
+
+// end ends a call of the process that entered the library, and returns the error that it was told, if any.
+func (s *Seat) end(told *answer) error {
+	err := told.err()
+	if told.fault == C.CHANHUB_DIVERGED {
+		err = DivergedError{Step: uint64(told.value.number), Text: s.hub.divergence()}
+	}
+	if s.hub.leave(s.pid) && told.isOfClose() {
+		return ErrHubClosed
+	}
 	return err
 }
 
-// call makes a call of the process.
-func (s *Seat) call(step func(hub *C.chanhub, pid C.uint) C.chanhub_told) (told, error) {
-	if err := s.hub.enter(s.pid); err != nil {
-		return told{}, err
+// endOfRecv ends a call like end, and returns the value that it received, if any.
+func (s *Seat) endOfRecv(told *answer) (Value, error) {
+	if err := s.end(told); err != nil {
+		return Value{}, err
 	}
-	told := toldOf(step(s.hub.at, within(s.pid)))
-	if told.fault == C.CHANHUB_DIVERGED {
-		told.divergence = s.hub.divergence()
-	}
-	closed := s.hub.leave(s.pid)
-	if closed && (told.what == C.CHANHUB_STALLED || told.what == C.CHANHUB_TIMED_OUT || told.fault == C.CHANHUB_DIVERGED) {
-		return told, ErrHubClosed
-	}
-	return told, told.err()
+	return Value{told.value}, nil
 }

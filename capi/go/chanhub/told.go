@@ -8,30 +8,12 @@ import "context"
 // waiting is the answer of a call that still waits. No call of this package returns it.
 const waiting = 8
 
-// told is the answer of a call.
-type told struct {
-	what  uint8
-	fault Fault
-	index int
-	port  Port
-	value Value
+// answer is what a call was told.
+type answer C.chanhub_told
 
-	divergence string // what DivergedError tells
-}
-
-func toldOf(raw C.chanhub_told) told {
-	return told{
-		what:  uint8(raw.what),
-		fault: Fault(raw.fault),
-		index: int(raw.index),
-		port:  Port(raw.port),
-		value: valueOf(raw.value),
-	}
-}
-
-// err returns the error that ended the call, if any.
-func (t told) err() error {
-	switch t.what {
+// err returns the error that ended the call, if any; for one that diverged it is Seat.end that says where.
+func (a *answer) err() error {
+	switch a.what {
 	case C.CHANHUB_CLOSED:
 		return ErrClosed
 	case C.CHANHUB_DRAINED:
@@ -43,21 +25,23 @@ func (t told) err() error {
 	case C.CHANHUB_TIMED_OUT:
 		return context.DeadlineExceeded
 	case C.CHANHUB_FAULT:
-		if t.fault == C.CHANHUB_DIVERGED {
-			return DivergedError{Step: t.value.number, Text: t.divergence}
-		}
-		return t.fault
+		return Fault(a.fault)
 	case waiting:
 		return FaultBusy
 	}
 	return nil
 }
 
+// isOfClose reports whether this is what Hub.Close has a call told that waits.
+func (a *answer) isOfClose() bool {
+	return a.what == C.CHANHUB_STALLED || a.what == C.CHANHUB_TIMED_OUT || a.fault == C.CHANHUB_DIVERGED
+}
+
 // caseIndex returns the index of the case that the answer is about, or -1.
-func (t told) caseIndex() int {
-	switch t.what {
+func (a *answer) caseIndex() int {
+	switch a.what {
 	case C.CHANHUB_SENT, C.CHANHUB_GOT, C.CHANHUB_CLOSED, C.CHANHUB_DRAINED:
-		return t.index
+		return int(a.index)
 	}
 	return -1
 }

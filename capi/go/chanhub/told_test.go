@@ -9,7 +9,7 @@ import (
 )
 
 func TestACallThatIsLeftWaitingIsAnError(t *testing.T) {
-	left := told{what: 8}
+	left := &answer{what: 8}
 	if err := left.err(); !errors.Is(err, FaultBusy) {
 		t.Errorf("told %v", err)
 	}

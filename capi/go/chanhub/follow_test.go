@@ -91,6 +91,35 @@ func trying(s *shared, seat *chanhub.Seat) (told []any) {
 	return told
 }
 
+func many(s *shared, seat *chanhub.Seat) (told []any) {
+	room := make([]sentBy, 3)
+	var count int
+	var err error
+	for i := 0; err == nil && (i < 8 || seat.Pid() == 0); i++ {
+		ctx, stop := context.WithTimeout(context.Background(), s.longest*time.Duration((i+seat.Pid())%4)/4)
+		own := []sentBy{{seat.Pid(), i}, {seat.Pid(), -i}}
+		received := room[:0]
+		switch seat.Pid() {
+		case 0:
+			count, err = s.a.RecvUpTo(seat, room)
+			received = room[:count]
+		case 1, 2:
+			count, err = s.a.SendAll(seat, own)
+		case 3:
+			count, err = s.b.SendAllContext(ctx, seat, own)
+		case 4:
+			count, err = s.b.RecvUpToContext(ctx, seat, room)
+			received = room[:count]
+		}
+		stop()
+		told = append(told, count, fmt.Sprint(received), err)
+		if errors.Is(err, context.DeadlineExceeded) {
+			err = nil
+		}
+	}
+	return told
+}
+
 func givingUp(s *shared, seat *chanhub.Seat) (told []any) {
 	if seat.Pid() == 0 {
 		return sending(s, seat)
@@ -141,11 +170,13 @@ func made(t *testing.T, hub *chanhub.Hub, act act, longest time.Duration) (told 
 
 // Each run is made again, whatever its channels carry, and whenever its contexts are done.
 func TestFollowedRuns(t *testing.T) {
-	for name, act := range map[string]act{"four senders": sending, "selects": selecting, "tries": trying, "contexts": givingUp} {
+	for name, act := range map[string]act{
+		"four senders": sending, "selects": selecting, "tries": trying, "contexts": givingUp, "many at once": many,
+	} {
 		t.Run(name, func(t *testing.T) {
 			gaveUp := 0
 			for i := 0; i < 200; i++ {
-				hub, err := chanhub.OpenWith(chanhub.Options{Procs: 5, Timeouts: name == "contexts"})
+				hub, err := chanhub.OpenWith(chanhub.Options{Procs: 5, Timeouts: name == "contexts" || name == "many at once"})
 				isError(t, "open", err, nil)
 				told, journal := made(t, hub, act, 400*time.Microsecond)
 				if !strings.Contains(told[0], chanhub.ErrStalled.Error()) {

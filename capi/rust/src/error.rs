@@ -54,6 +54,15 @@ pub enum Ended {
     Fault(Fault),
 }
 
+/// The error of [`Sender::send_all`](crate::Sender::send_all): how many values were sent, and why the next one was not.
+#[derive(Clone, Copy, Debug, PartialEq, Eq)]
+pub struct SendAllError {
+    /// How many values were sent.
+    pub sent: usize,
+    /// Why the next one was not sent.
+    pub ended: Ended,
+}
+
 /// The reason why the hub did not carry out a call. The number is the same as in `chanhub.h`.
 ///
 /// Safe Rust never meets [`GONE`](Fault::GONE), [`BUSY`](Fault::BUSY), [`NO_PORT`](Fault::NO_PORT) and
@@ -163,6 +172,12 @@ impl fmt::Display for Ended {
     }
 }
 
+impl fmt::Display for SendAllError {
+    fn fmt(&self, f: &mut fmt::Formatter<'_>) -> fmt::Result {
+        write!(f, "{}, after {} were sent", self.ended, self.sent)
+    }
+}
+
 impl fmt::Display for Fault {
     fn fmt(&self, f: &mut fmt::Formatter<'_>) -> fmt::Result {
         write!(f, "fault {}: {}", self.0, self.text())
@@ -171,7 +186,15 @@ impl fmt::Display for Fault {
 
 impl Error for OpenError {}
 impl Error for Ended {}
+impl Error for SendAllError {}
 impl Error for Fault {}
+
+/// Drops how many were sent, so that `?` passes the reason on.
+impl From<SendAllError> for Ended {
+    fn from(error: SendAllError) -> Ended {
+        error.ended
+    }
+}
 
 impl From<Fault> for Ended {
     fn from(fault: Fault) -> Ended {

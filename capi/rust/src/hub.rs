@@ -1,7 +1,7 @@
 //! A hub, and the seats through which its threads call.
 
 use crate::chapters::{self, Chapters, Handler};
-use crate::error::{Ended, Fault, OpenError};
+use crate::error::{Ended, Fault, OpenError, SendAllError};
 use crate::sys;
 use crate::value::Value;
 use std::cell::Cell;
@@ -22,6 +22,9 @@ const MEMORY_PAUSE: Duration = Duration::from_millis(1);
 
 /// The most cases that a select has, in a hub of any edition.
 pub(crate) const MOST_CASES: usize = 16;
+
+/// The most values that a call receives.
+const MOST_VALUES: usize = 1024;
 
 /// The most cases for which a select clears so few places that this needs no call.
 const FEW_CASES: usize = 4;
@@ -131,9 +134,6 @@ impl Abandoned {
     }
 
     fn take(&self) -> Vec<u16> {
-        if !self.are_some() {
-            return Vec::new();
-        }
         let mut ports = self.lock();
         self.are_some.store(false, Ordering::SeqCst);
         mem::take(&mut ports)
@@ -191,15 +191,20 @@ impl Raw {
     ) -> R {
         let process = self.process(pid);
         process.begin();
-        self.close_as(pid);
+        if self.abandoned.are_some() {
+            self.close_as(pid);
+        }
         let answer = call(self.at, pid.into());
         process.end(next);
-        self.close_abandoned(Some(pid));
+        if self.abandoned.are_some() {
+            self.close_abandoned(Some(pid));
+        }
         answer
     }
 
     /// Closes the abandoned ports as this process or, if it is not idle, as any that is. If none is, the next call to begin or to end
     /// does so.
+    #[cold]
     fn close_abandoned(&self, pid: Option<u8>) {
         while self.abandoned.are_some() {
             let mut processes = pid.into_iter().chain(0..self.processes.len() as u8);
@@ -222,6 +227,7 @@ impl Raw {
     }
 
     /// Closes the abandoned ports as this process, whose call has begun.
+    #[cold]
     fn close_as(&self, pid: u8) {
         for port in self.abandoned.take() {
             // SAFETY: the hub is open as long as this exists, and no other call of the process runs meanwhile.
@@ -229,6 +235,7 @@ impl Raw {
         }
     }
 
+    #[inline]
     fn process(&self, pid: u8) -> &Process {
         &self.processes[usize::from(pid)]
     }
@@ -747,6 +754,7 @@ impl Seat {
 
     /// Returns the number of the next value that the process gives to a table. It depends on nothing but the process and its own count,
     /// so a run that is followed sends the same numbers.
+    #[inline]
     pub(crate) fn next_number(&self) -> u64 {
         let values = &self.hub.0.process(self.pid).values;
         let count = values.load(Ordering::Relaxed) + 1;
@@ -800,6 +808,31 @@ impl Seat {
     pub(crate) fn recv(&self, port: u16) -> Result<Value, Ended> {
         // The port goes by value, so that it need not lie in memory.
         got(self.call(move |hub, pid| unsafe { sys::chanhub_recv(hub, pid, port.into()) }))
+    }
+
+    pub(crate) fn send_all(&self, port: u16, values: &[sys::Value]) -> Result<(), SendAllError> {
+        let (first, count, never) = (values.as_ptr(), values.len(), sys::NEVER);
+        let mut done = 0;
+        let told = self.call(|hub, pid| unsafe {
+            sys::chanhub_send_all(hub, pid, port.into(), first, count, never, &mut done)
+        });
+        sent(told).map_err(|ended| SendAllError { sent: done, ended })
+    }
+
+    pub(crate) fn recv_up_to(&self, port: u16, most: usize) -> Result<Vec<sys::Value>, Ended> {
+        let most = most.min(MOST_VALUES);
+        let mut values = Vec::with_capacity(most);
+        let (first, never) = (values.as_mut_ptr(), sys::NEVER);
+        let mut received = 0;
+        let told = self.call(|hub, pid| unsafe {
+            sys::chanhub_recv_up_to(hub, pid, port.into(), first, most, never, &mut received)
+        });
+        // SAFETY: there is room for `most`, and the library has stored so many.
+        unsafe { values.set_len(received) };
+        match told.what {
+            sys::GOT => Ok(values),
+            _ => Err(ended(&told)),
+        }
     }
 
     /// Receives a value, and waits for it at most so long.
@@ -1006,6 +1039,40 @@ impl Sender {
         seat.send(self.port, value.into())
     }
 
+    /// Sends values, one after the other, as so many calls of [`send`](Sender::send) do, in less time. It waits as often as they would.
+    ///
+    /// # Examples
+    ///
+    /// ```
+    /// use chanhub::{Edition, Ended, Hub, SendAllError};
+    ///
+    /// let (_hub, mut seats) = Hub::open(Edition::One, 1, 100).unwrap();
+    /// let mut seat = seats.remove(0);
+    /// let (sender, receiver) = seat.channel(3).unwrap();
+    /// sender.send_all(&mut seat, [7, 8]).unwrap();
+    ///
+    /// // There is room for one more, and no other process receives.
+    /// let error = sender.send_all(&mut seat, 9..12).unwrap_err();
+    /// assert_eq!(error, SendAllError { sent: 1, ended: Ended::Stalled });
+    /// assert_eq!(receiver.recv_up_to(&mut seat, 64), Ok(vec![7.into(), 8.into(), 9.into()]));
+    /// ```
+    ///
+    /// # Errors
+    ///
+    /// Returns how many values were sent, and the error of [`send`](Sender::send) for the next one.
+    pub fn send_all(
+        &self,
+        seat: &mut Seat,
+        values: impl IntoIterator<Item = impl Into<Value>>,
+    ) -> Result<(), SendAllError> {
+        if let Err(fault) = seat.is_mine(self.hub) {
+            let ended = fault.into();
+            return Err(SendAllError { sent: 0, ended });
+        }
+        let values: Vec<_> = values.into_iter().map(|value| value.into().raw()).collect();
+        seat.send_all(self.port, &values)
+    }
+
     /// Sends a value, and waits for that at most so long. A timeout of zero does not wait.
     ///
     /// # Errors
@@ -1063,6 +1130,18 @@ impl Receiver {
     pub fn recv(&self, seat: &mut Seat) -> Result<Value, Ended> {
         seat.is_mine(self.hub)?;
         seat.recv(self.port)
+    }
+
+    /// Receives up to `most` values, of which 1,024 are the most. It waits for the first one, and then takes others as long as the
+    /// buffer holds one.
+    ///
+    /// # Errors
+    ///
+    /// Returns the error of [`recv`](Receiver::recv) for the first value, and [`Fault::BAD_CALL`] if `most` is 0.
+    pub fn recv_up_to(&self, seat: &mut Seat, most: usize) -> Result<Vec<Value>, Ended> {
+        seat.is_mine(self.hub)?;
+        let values = seat.recv_up_to(self.port, most)?;
+        Ok(values.into_iter().map(Value::of).collect())
     }
 
     /// Receives a value, and waits for it at most so long. A timeout of zero does not wait.

@@ -184,7 +184,7 @@ mod value;
 
 pub use builder::Builder;
 pub use chapters::{ChapterFiles, Chapters};
-pub use error::{Ended, Fault, OpenError};
+pub use error::{Ended, Fault, OpenError, SendAllError};
 pub use hub::{Case, Counts, Drain, Edition, Hub, Receiver, Seat, Selected, Sender};
 pub use table::Table;
 pub use value::{Bytes, TooLong, Value};

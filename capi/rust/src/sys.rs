@@ -18,6 +18,8 @@ pub const STALLED: u8 = 9;
 pub const FAULT: u8 = 10;
 pub const CANCELLED: u8 = 11;
 pub const TIMED_OUT: u8 = 12;
+/// The deadline of a call that has none.
+pub const NEVER: u64 = u64::MAX;
 /// The fault of a call that the journal has not, with the number of its step as the value.
 pub const DIVERGED: u8 = 14;
 
@@ -148,6 +150,24 @@ extern "C" {
         has_default: bool,
         word: u64,
         deadline: u64,
+    ) -> Told;
+    pub fn chanhub_send_all(
+        hub: *mut Chanhub,
+        pid: c_uint,
+        port: c_uint,
+        values: *const Value,
+        count: usize,
+        deadline: u64,
+        sent: *mut usize,
+    ) -> Told;
+    pub fn chanhub_recv_up_to(
+        hub: *mut Chanhub,
+        pid: c_uint,
+        port: c_uint,
+        values: *mut Value,
+        most: usize,
+        deadline: u64,
+        received: *mut usize,
     ) -> Told;
     pub fn chanhub_in(nanoseconds: u64) -> u64;
     pub fn chanhub_resume(hub: *mut Chanhub, pid: c_uint, nanoseconds: u64) -> Told;

@@ -57,7 +57,7 @@
 
 use crate::error::{Ended, Fault};
 use crate::hub::{recv_case, send_case, Counts, Hub, Seat, Selected};
-use crate::table::Table;
+use crate::table::{Table, TAKEN_ONCE};
 use crate::value::Value;
 use std::error::Error;
 use std::fmt;
@@ -172,8 +172,7 @@ impl<T> Channel<T> {
 
     /// Takes the value with this number, which a receive got or no send sent.
     fn take(&self, number: Value) -> T {
-        let value = self.table.take(number);
-        value.expect("a number of the channel is taken once")
+        self.table.take(number).expect(TAKEN_ONCE)
     }
 
     /// Closes the channel, as this process or any other, unless it is closed or stays open.
@@ -447,6 +446,32 @@ impl<'a, T> BoundSender<'a, T> {
         }
     }
 
+    /// Sends values, one after the other, as so many calls of [`send`](BoundSender::send) do, in less time. It waits as often as they
+    /// would.
+    ///
+    /// # Errors
+    ///
+    /// Returns the values that were not sent, with the reason why the first of them was not, as [`send`](BoundSender::send) does.
+    pub fn send_all(&self, values: impl IntoIterator<Item = T>) -> Result<(), SendAllError<T>> {
+        let channel = &self.channel;
+        let values: Vec<T> = values.into_iter().collect();
+        if let Err(fault) = channel.is_for(self.seat) {
+            let (sent, ended) = (0, fault.into());
+            return Err(SendAllError {
+                sent,
+                values,
+                ended,
+            });
+        }
+        let numbers = channel.table.put_all(self.seat, values);
+        let sent = self.seat.send_all(channel.port, &numbers);
+        sent.map_err(|error| SendAllError {
+            sent: error.sent,
+            values: channel.table.take_all(&numbers[error.sent..]),
+            ended: error.ended,
+        })
+    }
+
     /// Sends a value, only if that needs no wait.
     ///
     /// # Errors
@@ -542,6 +567,31 @@ impl<'a, T> BoundReceiver<'a, T> {
         self.seat
             .recv(channel.port)
             .map(|number| channel.take(number))
+    }
+
+    /// Receives up to `most` values, of which 1,024 are the most. It waits for the first one, and then takes others as long as the
+    /// buffer holds one.
+    ///
+    /// ```
+    /// # use chanhub::{typed, Edition, Ended, Hub};
+    /// # let (_hub, mut seats) = Hub::open(Edition::Two, 1, 100).unwrap();
+    /// # let seat = seats.remove(0);
+    /// # let (words, receiver) = typed::channel::<&str>(&seat, 3)?;
+    /// # let (words, receiver) = (words.bind(&seat), receiver.bind(&seat));
+    /// words.send_all(["any", "type", "at once"])?;
+    /// assert_eq!(receiver.recv_up_to(2)?, ["any", "type"]);
+    /// assert_eq!(receiver.recv_up_to(2)?, ["at once"]);
+    /// # Ok::<(), Ended>(())
+    /// ```
+    ///
+    /// # Errors
+    ///
+    /// Returns the error of [`recv`](BoundReceiver::recv) for the first value, and [`Fault::BAD_CALL`] if `most` is 0.
+    pub fn recv_up_to(&self, most: usize) -> Result<Vec<T>, Ended> {
+        let channel = &self.channel;
+        channel.is_for(self.seat)?;
+        let numbers = self.seat.recv_up_to(channel.port, most)?;
+        Ok(channel.table.take_all(&numbers))
     }
 
     /// Receives a value, only if that needs no wait.
@@ -679,6 +729,17 @@ pub struct SendError<T> {
     pub ended: Ended,
 }
 
+/// The error of [`send_all`](BoundSender::send_all).
+#[derive(Clone, PartialEq, Eq)]
+pub struct SendAllError<T> {
+    /// How many values were sent.
+    pub sent: usize,
+    /// The values that were not sent, in order.
+    pub values: Vec<T>,
+    /// Why the first of these was not sent.
+    pub ended: Ended,
+}
+
 /// The error of a send that does not wait. It has the value that was not sent.
 #[derive(Clone, Copy, PartialEq, Eq)]
 #[non_exhaustive]
@@ -752,6 +813,15 @@ impl<T> fmt::Debug for SendError<T> {
     }
 }
 
+impl<T> fmt::Debug for SendAllError<T> {
+    fn fmt(&self, f: &mut fmt::Formatter<'_>) -> fmt::Result {
+        f.debug_struct("SendAllError")
+            .field("sent", &self.sent)
+            .field("ended", &self.ended)
+            .finish_non_exhaustive()
+    }
+}
+
 impl<T> fmt::Debug for TrySendError<T> {
     fn fmt(&self, f: &mut fmt::Formatter<'_>) -> fmt::Result {
         match self {
@@ -773,6 +843,12 @@ impl<T> fmt::Debug for SendTimeoutError<T> {
 impl<T> fmt::Display for SendError<T> {
     fn fmt(&self, f: &mut fmt::Formatter<'_>) -> fmt::Result {
         self.ended.fmt(f)
+    }
+}
+
+impl<T> fmt::Display for SendAllError<T> {
+    fn fmt(&self, f: &mut fmt::Formatter<'_>) -> fmt::Result {
+        write!(f, "{}, after {} were sent", self.ended, self.sent)
     }
 }
 
@@ -813,6 +889,7 @@ impl fmt::Display for RecvTimeoutError {
 }
 
 impl<T> Error for SendError<T> {}
+impl<T> Error for SendAllError<T> {}
 impl<T> Error for TrySendError<T> {}
 impl Error for TryRecvError {}
 impl<T> Error for SendTimeoutError<T> {}
@@ -821,6 +898,13 @@ impl Error for RecvTimeoutError {}
 /// Drops the value, so that `?` passes the reason on.
 impl<T> From<SendError<T>> for Ended {
     fn from(error: SendError<T>) -> Ended {
+        error.ended
+    }
+}
+
+/// Drops the values, so that `?` passes the reason on.
+impl<T> From<SendAllError<T>> for Ended {
+    fn from(error: SendAllError<T>) -> Ended {
         error.ended
     }
 }

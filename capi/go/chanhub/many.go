@@ -1,0 +1,192 @@
+package chanhub
+
+/*
+#include <chanhub.h>
+
+// What a call of many values was told, and how many of them it sent or received.
+typedef struct {
+	chanhub_told told;
+	size_t count;
+} counted;
+
+static counted send_all(uintptr_t hub, unsigned pid, unsigned port, const chanhub_value *values, size_t count) {
+	counted all;
+	all.told = chanhub_send_all((chanhub *)hub, pid, port, values, count, CHANHUB_NEVER, &all.count);
+	return all;
+}
+
+static counted begin_send_all(uintptr_t hub, unsigned pid, unsigned port, const chanhub_value *values, size_t count, uint64_t deadline) {
+	counted all;
+	all.told = chanhub_begin_send_all((chanhub *)hub, pid, port, values, count, deadline, &all.count);
+	return all;
+}
+
+static counted recv_up_to(uintptr_t hub, unsigned pid, unsigned port, chanhub_value *values, size_t most) {
+	counted all;
+	all.told = chanhub_recv_up_to((chanhub *)hub, pid, port, values, most, CHANHUB_NEVER, &all.count);
+	return all;
+}
+
+static counted begin_recv_up_to(uintptr_t hub, unsigned pid, unsigned port, chanhub_value *values, size_t most, uint64_t deadline) {
+	counted all;
+	all.told = chanhub_begin_recv_up_to((chanhub *)hub, pid, port, values, most, deadline, &all.count);
+	return all;
+}
+*/
+import "C"
+
+import "context"
+
+// SendAll sends the values on a port, one after the other, as [Seat.Send] does. This takes less time than so many calls of Send, and waits
+// as often as they would. It returns how many were sent: all of them, unless err says why the next one was not. Without values it makes
+// no step.
+func (s *Seat) SendAll(port Port, values []Value) (sent int, err error) {
+	if len(values) == 0 {
+		return 0, nil
+	}
+	if err := s.hub.enter(s.pid); err != nil {
+		return 0, err
+	}
+	all := C.send_all(s.hub.number(), within(s.pid), C.uint(port), &values[0].raw, C.size_t(len(values)))
+	told := answer(all.told)
+	return int(all.count), s.end(&told)
+}
+
+// RecvUpTo receives values from a port into values. It waits for the first one, as [Seat.Recv] does, and then receives others as long as
+// the buffer of the port holds one and values has room. It returns how many it received: at least one, unless err says why not.
+// It returns [FaultBadCall] if values has no room.
+func (s *Seat) RecvUpTo(port Port, values []Value) (received int, err error) {
+	if len(values) == 0 {
+		return 0, FaultBadCall
+	}
+	if err := s.hub.enter(s.pid); err != nil {
+		return 0, err
+	}
+	all := C.recv_up_to(s.hub.number(), within(s.pid), C.uint(port), &values[0].raw, C.size_t(len(values)))
+	told := answer(all.told)
+	return int(all.count), s.end(&told)
+}
+
+// SendAllContext is like [Seat.SendAll], but gives up once the context is done and a value would have to wait, as [Seat.SendContext] does.
+// The values before that one were sent.
+func (s *Seat) SendAllContext(ctx context.Context, port Port, values []Value) (sent int, err error) {
+	if len(values) == 0 {
+		return 0, nil
+	}
+	if err := s.hub.enter(s.pid); err != nil {
+		return 0, err
+	}
+	sent, told := s.beginAll(ctx, port, values)
+	return sent, errorOf(ctx, s.end(&told))
+}
+
+// beginAll sends the values, and waits where it must. It returns how many were sent, and what the last call was told.
+func (s *Seat) beginAll(ctx context.Context, port Port, values []Value) (sent int, told answer) {
+	deadline := deadlineOf(ctx)
+	told.what = C.CHANHUB_SENT
+	for told.what == C.CHANHUB_SENT && sent < len(values) {
+		rest := values[sent:]
+		all := C.begin_send_all(s.hub.number(), within(s.pid), C.uint(port), &rest[0].raw, C.size_t(len(rest)), deadline)
+		sent += int(all.count)
+		told = answer(all.told)
+		if s.await(ctx, &told) && told.what == C.CHANHUB_SENT {
+			sent++
+		}
+	}
+	return sent, told
+}
+
+// RecvUpToContext is like [Seat.RecvUpTo], but gives up once the context is done, as [Seat.SendContext] does. If it had to wait, it
+// receives no other value than the one for which it waited.
+func (s *Seat) RecvUpToContext(ctx context.Context, port Port, values []Value) (received int, err error) {
+	if len(values) == 0 {
+		return 0, FaultBadCall
+	}
+	if err := s.hub.enter(s.pid); err != nil {
+		return 0, err
+	}
+	most, deadline := C.size_t(len(values)), deadlineOf(ctx)
+	all := C.begin_recv_up_to(s.hub.number(), within(s.pid), C.uint(port), &values[0].raw, most, deadline)
+	received, told := int(all.count), answer(all.told)
+	if s.await(ctx, &told) && told.what == C.CHANHUB_GOT {
+		values[0].raw = told.value
+		received = 1
+	}
+	return received, errorOf(ctx, s.end(&told))
+}
+
+// SendAll sends the values, one after the other, as [Seat.SendAll] does. Those that were not sent do not stay in the Chan.
+func (c *Chan[T]) SendAll(seat *Seat, values []T) (sent int, err error) {
+	if err := c.isFor(seat); err != nil {
+		return 0, err
+	}
+	numbers := c.putAll(seat, values)
+	sent, err = seat.SendAll(c.port, numbers)
+	c.dropAll(numbers[sent:])
+	return sent, err
+}
+
+// SendAllContext is like [Chan.SendAll], but gives up once the context is done, as [Seat.SendAllContext] does.
+func (c *Chan[T]) SendAllContext(ctx context.Context, seat *Seat, values []T) (sent int, err error) {
+	if err := c.isFor(seat); err != nil {
+		return 0, err
+	}
+	numbers := c.putAll(seat, values)
+	sent, err = seat.SendAllContext(ctx, c.port, numbers)
+	c.dropAll(numbers[sent:])
+	return sent, err
+}
+
+// RecvUpTo receives values into values, as [Seat.RecvUpTo] does.
+func (c *Chan[T]) RecvUpTo(seat *Seat, values []T) (received int, err error) {
+	if err := c.isFor(seat); err != nil {
+		return 0, err
+	}
+	numbers := make([]Value, len(values))
+	received, err = seat.RecvUpTo(c.port, numbers)
+	c.takeAll(numbers[:received], values)
+	return received, err
+}
+
+// RecvUpToContext is like [Chan.RecvUpTo], but gives up once the context is done, as [Seat.RecvUpToContext] does.
+func (c *Chan[T]) RecvUpToContext(ctx context.Context, seat *Seat, values []T) (received int, err error) {
+	if err := c.isFor(seat); err != nil {
+		return 0, err
+	}
+	numbers := make([]Value, len(values))
+	received, err = seat.RecvUpToContext(ctx, c.port, numbers)
+	c.takeAll(numbers[:received], values)
+	return received, err
+}
+
+// putAll keeps values that a process is to send, and returns their numbers.
+func (c *Chan[T]) putAll(seat *Seat, values []T) []Value {
+	first := c.hub.numbersFor(seat.pid, len(values))
+	numbers := make([]Value, len(values))
+	c.lock.Lock()
+	defer c.lock.Unlock()
+	for i, value := range values {
+		number := first + 100*uint64(i)
+		c.values[number] = value
+		numbers[i] = Number(number)
+	}
+	return numbers
+}
+
+// dropAll drops the values with these numbers, which were not sent.
+func (c *Chan[T]) dropAll(numbers []Value) {
+	c.lock.Lock()
+	defer c.lock.Unlock()
+	for _, number := range numbers {
+		delete(c.values, number.number())
+	}
+}
+
+// takeAll takes out the values with these numbers, which were received.
+func (c *Chan[T]) takeAll(numbers []Value, values []T) {
+	c.lock.Lock()
+	defer c.lock.Unlock()
+	for i, number := range numbers {
+		values[i] = c.taken(number)
+	}
+}

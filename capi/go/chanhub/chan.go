@@ -19,7 +19,7 @@ type Chan[T any] struct {
 	capacity int
 
 	lock   sync.Mutex
-	values map[uint64]T // those whose numbers are in the hub
+	values table[T] // those whose numbers are in the hub
 }
 
 // MakeChan makes a channel that buffers up to capacity values, from 0 to 1,024. With capacity 0, each send waits for a receive.
@@ -28,7 +28,7 @@ func MakeChan[T any](seat *Seat, capacity int) (*Chan[T], error) {
 	if err != nil {
 		return nil, err
 	}
-	return &Chan[T]{hub: seat.hub, port: port, capacity: capacity, values: make(map[uint64]T)}, nil
+	return &Chan[T]{hub: seat.hub, port: port, capacity: capacity, values: newTable[T]()}, nil
 }
 
 // Port returns the number of the channel, by which journals, stories and pictures name it. Use it in no call that sends, receives or
@@ -68,8 +68,15 @@ func (c *Chan[T]) sent(number Value, err error) error {
 
 // TrySend sends a value only if that needs no wait, and reports whether it did.
 func (c *Chan[T]) TrySend(seat *Seat, value T) (sent bool, err error) {
-	index, err := seat.TrySelectChan(c.SendCase(value))
-	return err == nil && index == 0, err
+	if err := c.isFor(seat); err != nil {
+		return false, err
+	}
+	number := c.put(seat, value)
+	_, sent, err = seat.try(SendCase(c.port, number))
+	if !sent {
+		c.drop(number)
+	}
+	return sent, err
 }
 
 // Recv receives a value. It waits until there is one. It returns [ErrDrained] if the channel is closed and empty.
@@ -90,8 +97,14 @@ func (c *Chan[T]) received(number Value, err error) (value T, _ error) {
 
 // TryRecv receives a value only if that needs no wait, and reports whether it did.
 func (c *Chan[T]) TryRecv(seat *Seat) (value T, received bool, err error) {
-	index, err := seat.TrySelectChan(c.RecvCase(&value))
-	return value, err == nil && index == 0, err
+	if err := c.isFor(seat); err != nil {
+		return value, false, err
+	}
+	number, received, err := seat.try(RecvCase(c.port))
+	if received {
+		value = c.take(number)
+	}
+	return value, received, err
 }
 
 // Range receives values and calls yield with each, until the channel is closed and empty or yield returns false. Then it returns
@@ -224,7 +237,7 @@ func (c *Chan[T]) put(seat *Seat, value T) Value {
 	number := c.hub.numbersFor(seat.pid, 1)
 	c.lock.Lock()
 	defer c.lock.Unlock()
-	c.values[number] = value
+	c.values.put(number, value)
 	return Number(number)
 }
 
@@ -232,7 +245,7 @@ func (c *Chan[T]) put(seat *Seat, value T) Value {
 func (c *Chan[T]) drop(number Value) {
 	c.lock.Lock()
 	defer c.lock.Unlock()
-	delete(c.values, number.number())
+	c.values.take(number.number())
 }
 
 // take takes out the value with this number, which was received.
@@ -244,10 +257,9 @@ func (c *Chan[T]) take(number Value) T {
 
 // taken takes out the value with this number. The caller holds the lock.
 func (c *Chan[T]) taken(number Value) T {
-	value, isThere := c.values[number.number()]
+	value, isThere := c.values.take(number.number())
 	if !isThere {
 		panic("chanhub: a value came from the port of a Chan that was not sent by it")
 	}
-	delete(c.values, number.number())
 	return value
 }

@@ -4,8 +4,8 @@ package chanhub
 #include <chanhub.h>
 
 // A call of one case, which then need not lie on Go's heap.
-static chanhub_told begin_one(chanhub *hub, unsigned pid, chanhub_case one, uint64_t deadline) {
-	return chanhub_begin_until(hub, pid, &one, 1, false, 0, deadline);
+static chanhub_told begin_one(uintptr_t hub, unsigned pid, chanhub_case one, uint64_t deadline) {
+	return chanhub_begin_until((chanhub *)hub, pid, &one, 1, false, 0, deadline);
 }
 */
 import "C"
@@ -48,7 +48,7 @@ func (s *Seat) callUntil(ctx context.Context, c Case) (Value, error) {
 	if err := s.hub.enter(s.pid); err != nil {
 		return Value{}, err
 	}
-	told := answer(C.begin_one(s.hub.at, within(s.pid), c.raw, deadlineOf(ctx)))
+	told := answer(C.begin_one(s.hub.number(), within(s.pid), c.raw, deadlineOf(ctx)))
 	s.await(ctx, &told)
 	value, err := s.endOfRecv(&told)
 	return value, errorOf(ctx, err)

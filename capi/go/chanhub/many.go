@@ -35,7 +35,10 @@ static counted begin_recv_up_to(uintptr_t hub, unsigned pid, unsigned port, chan
 */
 import "C"
 
-import "context"
+import (
+	"context"
+	"sync"
+)
 
 // SendAll sends the values on a port, one after the other, as [Seat.Send] does. This takes less time than so many calls of Send, and waits
 // as often as they would. It returns how many were sent: all of them, unless err says why the next one was not. Without values it makes
@@ -120,9 +123,11 @@ func (c *Chan[T]) SendAll(seat *Seat, values []T) (sent int, err error) {
 	if err := c.isFor(seat); err != nil {
 		return 0, err
 	}
-	numbers := c.putAll(seat, values)
-	sent, err = seat.SendAll(c.port, numbers)
-	c.dropAll(numbers[sent:])
+	room := roomFor(len(values))
+	defer rooms.Put(room)
+	c.putAll(seat, values, *room)
+	sent, err = seat.SendAll(c.port, *room)
+	c.dropAll((*room)[sent:])
 	return sent, err
 }
 
@@ -131,9 +136,11 @@ func (c *Chan[T]) SendAllContext(ctx context.Context, seat *Seat, values []T) (s
 	if err := c.isFor(seat); err != nil {
 		return 0, err
 	}
-	numbers := c.putAll(seat, values)
-	sent, err = seat.SendAllContext(ctx, c.port, numbers)
-	c.dropAll(numbers[sent:])
+	room := roomFor(len(values))
+	defer rooms.Put(room)
+	c.putAll(seat, values, *room)
+	sent, err = seat.SendAllContext(ctx, c.port, *room)
+	c.dropAll((*room)[sent:])
 	return sent, err
 }
 
@@ -142,9 +149,10 @@ func (c *Chan[T]) RecvUpTo(seat *Seat, values []T) (received int, err error) {
 	if err := c.isFor(seat); err != nil {
 		return 0, err
 	}
-	numbers := make([]Value, len(values))
-	received, err = seat.RecvUpTo(c.port, numbers)
-	c.takeAll(numbers[:received], values)
+	room := roomFor(len(values))
+	defer rooms.Put(room)
+	received, err = seat.RecvUpTo(c.port, *room)
+	c.takeAll((*room)[:received], values)
 	return received, err
 }
 
@@ -153,24 +161,35 @@ func (c *Chan[T]) RecvUpToContext(ctx context.Context, seat *Seat, values []T) (
 	if err := c.isFor(seat); err != nil {
 		return 0, err
 	}
-	numbers := make([]Value, len(values))
-	received, err = seat.RecvUpToContext(ctx, c.port, numbers)
-	c.takeAll(numbers[:received], values)
+	room := roomFor(len(values))
+	defer rooms.Put(room)
+	received, err = seat.RecvUpToContext(ctx, c.port, *room)
+	c.takeAll((*room)[:received], values)
 	return received, err
 }
 
-// putAll keeps values that a process is to send, and returns their numbers.
-func (c *Chan[T]) putAll(seat *Seat, values []T) []Value {
+// rooms are for the numbers of many values. To allocate for each call would take longer than the call.
+var rooms = sync.Pool{New: func() any { return new([]Value) }}
+
+func roomFor(count int) *[]Value {
+	room := rooms.Get().(*[]Value)
+	if cap(*room) < count {
+		*room = make([]Value, count)
+	}
+	*room = (*room)[:count]
+	return room
+}
+
+// putAll keeps values that a process is to send, and stores their numbers.
+func (c *Chan[T]) putAll(seat *Seat, values []T, numbers []Value) {
 	first := c.hub.numbersFor(seat.pid, len(values))
-	numbers := make([]Value, len(values))
 	c.lock.Lock()
 	defer c.lock.Unlock()
 	for i, value := range values {
 		number := first + 100*uint64(i)
-		c.values[number] = value
+		c.values.put(number, value)
 		numbers[i] = Number(number)
 	}
-	return numbers
 }
 
 // dropAll drops the values with these numbers, which were not sent.
@@ -178,7 +197,7 @@ func (c *Chan[T]) dropAll(numbers []Value) {
 	c.lock.Lock()
 	defer c.lock.Unlock()
 	for _, number := range numbers {
-		delete(c.values, number.number())
+		c.values.take(number.number())
 	}
 }
 

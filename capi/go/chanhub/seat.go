@@ -3,7 +3,7 @@ package chanhub
 /*
 #include <chanhub.h>
 
-// The calls that are made most, with the hub as a number: cgo looks closer at each pointer, and allocates for that.
+// Calls with the hub as a number, since cgo looks closer at each pointer, and allocates for that.
 
 static chanhub_told send_to(uintptr_t hub, unsigned pid, unsigned port, chanhub_value value) {
 	return chanhub_send((chanhub *)hub, pid, port, value);
@@ -11,6 +11,14 @@ static chanhub_told send_to(uintptr_t hub, unsigned pid, unsigned port, chanhub_
 
 static chanhub_told recv_from(uintptr_t hub, unsigned pid, unsigned port) {
 	return chanhub_recv((chanhub *)hub, pid, port);
+}
+
+static chanhub_told select_of(uintptr_t hub, unsigned pid, const chanhub_case *cases, size_t count, bool has_default, uint64_t word) {
+	return chanhub_select((chanhub *)hub, pid, cases, count, has_default, word);
+}
+
+static chanhub_told try_one(uintptr_t hub, unsigned pid, chanhub_case one) {
+	return chanhub_select((chanhub *)hub, pid, &one, 1, true, 0);
 }
 */
 import "C"
@@ -94,9 +102,19 @@ func (s *Seat) selectOf(hasDefault bool, word uint64, cases []Case) (int, Value,
 		return -1, Value{}, err
 	}
 	first, count := raw(cases)
-	told := answer(C.chanhub_select(s.hub.at, within(s.pid), first, count, C.bool(hasDefault), C.uint64_t(word)))
+	told := answer(C.select_of(s.hub.number(), within(s.pid), first, count, C.bool(hasDefault), C.uint64_t(word)))
 	value, err := s.endOfRecv(&told)
 	return told.caseIndex(), value, err
+}
+
+// try fires this case only if that needs no wait, and reports whether it did.
+func (s *Seat) try(c Case) (value Value, fired bool, err error) {
+	if err := s.hub.enter(s.pid); err != nil {
+		return Value{}, false, err
+	}
+	told := answer(C.try_one(s.hub.number(), within(s.pid), c.raw))
+	value, err = s.endOfRecv(&told)
+	return value, err == nil && told.what != C.CHANHUB_DEFAULT, err
 }
 
 // raw returns the cases as the library takes them.

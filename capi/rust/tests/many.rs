@@ -80,8 +80,8 @@ fn fails_by(
 
 #[test]
 fn a_typed_send_of_many_gives_back_what_it_did_not_send() {
-    let closed = fails_by(|_, receiver| {
-        drop(receiver);
+    let closed = fails_by(|other, receiver| {
+        drop(receiver.bind(other));
         None
     });
     let cancelled = fails_by(|other, receiver| {

@@ -39,8 +39,8 @@
 //
 // One lock orders all steps. What a goroutine wrote before a send or a close is visible to the goroutine that receives the value or
 // learns of the close. What a goroutine wrote before it received a value from a port is visible to a goroutine whose later send
-// needed the room that this receive made, whether or not that send had to wait. The race detector takes all calls on a hub to be
-// ordered, even those that pass no value to each other, so it can miss some races.
+// needed the room that this receive made, whether or not that send had to wait. The race detector takes all calls
+// through cgo to be ordered, even those that pass no value to each other, so it can miss some races.
 //
 // # Values of any type
 //
@@ -122,7 +122,6 @@ type Hub struct {
 	freed     sync.Once
 	unwritten error          // what Close returns
 	closed    int32          // atomic: 1 once Close has begun
-	ordered   int32          // atomic: see order
 	processes []process      // the last stands for nobody
 	left      sync.WaitGroup // those whose calls Close waits for
 }
@@ -294,7 +293,6 @@ const nobody = -1
 
 // enter lets a call of a process into the library, or returns ErrHubClosed. The memory is kept until the call leaves.
 func (h *Hub) enter(pid int) error {
-	h.order()
 	calling := &h.process(pid).calling
 	for {
 		count := atomic.LoadInt32(calling)
@@ -309,7 +307,6 @@ func (h *Hub) enter(pid int) error {
 
 // leave ends a call, and reports whether the hub is closed. If so, the process exits with the last of its calls.
 func (h *Hub) leave(pid int) (closed bool) {
-	h.order()
 	if atomic.AddInt32(&h.process(pid).calling, -1) == refused {
 		h.exit(pid)
 		h.left.Done()

@@ -1,5 +1,0 @@
-//go:build !race
-
-package chanhub
-
-func (h *Hub) order() {}

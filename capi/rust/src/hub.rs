@@ -95,6 +95,7 @@ impl Process {
     }
 
     /// Begins a call of the thread that has the seat.
+    #[inline]
     fn begin(&self) {
         while self.state.swap(Process::CALLING, Ordering::SeqCst) == Process::CALLING {
             thread::yield_now(); // another thread closes a port as this process, or drops its seat from before
@@ -110,6 +111,7 @@ impl Process {
         was_idle.is_ok()
     }
 
+    #[inline]
     fn end(&self, next: u8) {
         self.state.store(next, Ordering::SeqCst);
     }
@@ -139,6 +141,7 @@ impl Abandoned {
         mem::take(&mut ports)
     }
 
+    #[inline]
     fn are_some(&self) -> bool {
         self.are_some.load(Ordering::SeqCst)
     }
@@ -154,6 +157,7 @@ impl RefUnwindSafe for Raw {}
 
 impl Raw {
     /// Makes a call of the thread that has the seat.
+    #[inline]
     fn call<R>(&self, pid: u8, call: impl FnOnce(*mut sys::Chanhub, c_uint) -> R) -> R {
         self.call_then(pid, Process::IDLE, call)
     }
@@ -641,6 +645,7 @@ impl Hub {
         }
     }
 
+    #[inline]
     pub(crate) fn id(&self) -> u64 {
         self.0.id
     }
@@ -748,6 +753,7 @@ impl Seat {
         self.pid
     }
 
+    #[inline]
     pub(crate) fn hub(&self) -> &Hub {
         &self.hub
     }

@@ -75,6 +75,7 @@ impl<T> Table<T> {
         Table::default()
     }
 
+    #[inline]
     fn lock(&self) -> MutexGuard<'_, Things<T>> {
         self.things.lock().unwrap_or_else(PoisonError::into_inner)
     }
@@ -84,6 +85,7 @@ impl<T> Table<T> {
     /// The `k`-th value, from 1, that process `p` of a hub puts into tables or gives to [`typed`](crate::typed) channels has the number
     /// `100 * k + p`. So in a hub that [follows](crate::Hub::follow) a journal, a process sends the numbers that it sent before. A
     /// number is left out if the table has a value of another hub by it.
+    #[inline]
     pub fn put(&self, seat: &Seat, thing: T) -> Value {
         Value::Number(put_into(&mut self.lock(), seat, thing))
     }
@@ -111,6 +113,7 @@ impl<T> Table<T> {
 }
 
 /// Stores a value, and returns its number.
+#[inline]
 fn put_into<T>(things: &mut Things<T>, seat: &Seat, thing: T) -> u64 {
     loop {
         let number = seat.next_number();

@@ -261,6 +261,7 @@ impl Board {
 
     /// Ends the oldest open call with a case on this side of the port, at its lowest such case. The call leaves
     /// the queues of all its cases.
+    #[inline(always)]
     pub fn take(&mut self, port: Port, side: Side) -> Option<Ended>
         requires { IsMade self.old port }
         ensures taken { option_map ending_of result ≡ first_with (passes port side) (open_calls self.old.waiting) }

@@ -1,9 +1,9 @@
 //! Writing journals and events. A private function that is refused may leave a part behind, which
 //! the public one takes back.
 
-ghost use Rattle.std.specs.Prelude.{◌≡◌, ◌++◌, ◌∷◌, [], codes, decimal, length, OnOk, OnErr, IsOk, ◌↔◌, take, ◌≤◌, true};
+ghost use Rattle.std.specs.Prelude.{◌≡◌, ◌++◌, ◌∷◌, [], codes, decimal, false, length, IfSome, OnOk, OnErr, IsOk, ◌↔◌, take, ◌≤◌, true};
 ghost use Rattle.hub_base.specs.EventText.{event_line, EventFits};
-ghost use Rattle.hub_base.specs.Lines.{case_field, select_fields, call_fields, step_fields, line};
+ghost use Rattle.hub_base.specs.Lines.{call, case_field, select_fields, call_fields, step_fields, line};
 ghost use Rattle.std.specs.List.{flat_map};
 ghost use Rattle.std.specs.Vec.{vec_capacity};
 ghost use Rattle.hub_base.specs.Head.{IsHead, head_of, is_of};
@@ -12,11 +12,13 @@ ghost use Rattle.hub_text.specs.Writing.{Appends, spaced, spaced_cases, HasRoomF
 ghost use Rattle.hub_base.specs.Text.{Fits};
 ghost use Rattle.hub_base.specs.Value.{value_field};
 
-use crate::entry_fields::{MOST_NUMBER, MOST_SEND, MOST_WORD, put_number, put_send};
+use crate::entry_fields::{
+    MOST_NUMBER, MOST_PLAIN, MOST_SEND, MOST_WORD, put_number, put_plain, put_send,
+};
 use crate::event_lines::{MOST_DIGITS, MOST_VALUE, put_event, put_large, put_value};
 use crate::limits::MOST_LINE;
 use hub_base::{
-    Case, Edition, Entry, EntryRef, Event, Head, Journal, MOST_PROCS, NoMemory, Port, Step,
+    Case, Edition, Entry, EntryRef, Event, Head, Journal, MOST_PROCS, NoMemory, Pid, Port, Step,
     StepRef, Value, What,
 };
 use std::alloc::AllocError;
@@ -36,7 +38,7 @@ fn put_before_number(out: &mut Vec<u8>, before: &[u8], n: u64) -> Result<(), All
     ensures { Appends out.old out.new (before.now ++ decimal n) result }
 {
     let mut field = [0; MOST_NUMBER];
-    let end = put_number(&mut field, before, n);
+    let end = put_number(&mut field, 0, before, n);
     put(out, &field[..end])
 }
 
@@ -53,7 +55,7 @@ fn put_sent(
     ensures { Appends out.old out.new (before.now ++ decimal port.0 ++ mark ∷ value_field value.now) result }
 {
     let mut field = [0; MOST_SEND];
-    let end = put_send(&mut field, before, port, mark, value);
+    let end = put_send(&mut field, 0, before, port, mark, value);
     put(out, &field[..end])
 }
 
@@ -216,13 +218,55 @@ fn put_step(out: &mut Vec<u8>, step: &StepRef<'_>) -> Result<(), AllocError>
     }
 }
 
-/// Appends a line.
-fn put_entry(out: &mut Vec<u8>, entry: &EntryRef<'_>) -> Result<(), AllocError>
+/// Appends the line of a plain send or receive at once.
+#[inline(always)]
+fn put_plain_line(out: &mut Vec<u8>, pid: Pid, case: Case) -> Result<(), AllocError>
+    ensures { Appends out.old out.new (line (record { pid = pid; step = call (case ∷ []) false 0 })) result }
+{
+    let mut text = [0; MOST_PLAIN];
+    let end = put_plain(&mut text, pid, case);
+    put(out, &text[..end])
+}
+
+/// Appends a line in pieces.
+fn put_pieces(out: &mut Vec<u8>, entry: &EntryRef<'_>) -> Result<(), AllocError>
     ensures { Appends out.old out.new (line entry.now) result }
 {
     put_before_number(out, b"", entry.pid.0.into())?;
     put_step(out, &entry.step)?;
     put(out, b"\n")
+}
+
+/// The case of a plain send or receive.
+#[inline(always)]
+fn plain_case(step: &StepRef<'_>) -> Option<Case>
+    ensures { IfSome result (λ case. step.now ≡ call (case ∷ []) false 0) }
+{
+    match step {
+        Step::Call {
+            cases,
+            default,
+            word,
+        } => {
+            let cases = cases.as_slice();
+            if cases.len() != 1 || *default || *word != 0 {
+                None
+            } else {
+                Some(cases[0])
+            }
+        }
+        _ => None,
+    }
+}
+
+/// Appends a line. Most are of plain sends and receives.
+fn put_entry(out: &mut Vec<u8>, entry: &EntryRef<'_>) -> Result<(), AllocError>
+    ensures { Appends out.old out.new (line entry.now) result }
+{
+    match plain_case(&entry.step) {
+        Some(case) => put_plain_line(out, entry.pid, case),
+        None => put_pieces(out, entry),
+    }
 }
 
 /// Appends the one spelling, a line, of an entry that this edition has; `Err` where a growth was refused, with

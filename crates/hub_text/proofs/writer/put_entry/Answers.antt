@@ -1,12 +1,10 @@
-use Rattle.std.proofs.Common.{arith}
-use Rattle.std.proofs.lemmas.Grind.{common_steps}
-use Rattle.std.specs.Fmt.{decimal}
-use Rattle.hub_text.proofs.Spelled.{join-spaced}
-use Rattle.hub_base.specs.Lines.{step_fields}
+use Rattle.std.proofs.Common.{subst, sym}
+use Rattle.hub_base.specs.Entry.{Step}
+use Rattle.hub_base.specs.Lines.{line}
+use Rattle.hub_text.specs.Writing.{Appends}
 use Rattle.hub_text.proofs.writer.put_entry.Goals as goal
 
-pub returns-in_err-put_step : goal.returns-in_err-put_step
-returns-in_err-put_step c = grind (arith, common_steps, join-spaced (decimal c.args.entry.now.pid.0) (step_fields c.args.entry.now.step))
-
-pub returns : goal.returns
-returns c = grind (arith, common_steps, join-spaced (decimal c.args.entry.now.pid.0) (step_fields c.args.entry.now.step))
+pub returns-in-Some : goal.returns-in-Some
+returns-in-Some c =
+    subst (λ (s : Step). Appends c.args.out.now c.put_plain_line.new.out (line (record { pid = c.args.entry.now.pid; step = s })) c.put_plain_line.result)
+    (sym c.in-Some.ensures) c.put_plain_line.ensures

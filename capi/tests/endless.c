@@ -91,6 +91,7 @@ static void waiting_calls(void) {
     is("got", (long long)chanhub_recv(hub, 1, 1).value.number, 5);
     chanhub_case cases[2] = { { .port = 0 }, { .port = 1 } };
     is("waiting", chanhub_begin(hub, 1, cases, 2, false, 9).what, CHANHUB_WAITING);
+    for (unsigned i = 0; i < 3; i++) is_fault("twice as many as it begins with", chanhub_close(hub, 0, 3), CHANHUB_NO_PORT);
     is("none fell out", all.count, 0);
     is_fault("begins the third", chanhub_close(hub, 0, 2), CHANHUB_NO_PORT);
     is("one fell out", all.count, 1);
@@ -113,7 +114,7 @@ static void waiting_calls(void) {
     chanhub_free(hub);
     are_chapters(&all, (const char *const[]){
         "chanhub journal 2\nprocs 2\n0 make 2\n0 send 1 #6162\n0 send 1 5\n",
-        "chanhub journal 2\nprocs 2\n0 make 2\n0 send 1 #6162\n0 send 1 5\n1 recv 1\n1 recv 1\n1 select 9 r0 r1\n",
+        "chanhub journal 2\nprocs 2\n0 make 2\n0 send 1 #6162\n0 send 1 5\n1 recv 1\n1 recv 1\n1 select 9 r0 r1\n0 close 3\n0 close 3\n0 close 3\n",
         "chanhub journal 2\nprocs 2\n0 make 2\n1 select 0 r0 r1\n0 close 2\n",
         "chanhub journal 2\nprocs 2\n0 make 2\n1 select 0 r0 r1\n0 send 1 6\n",
         "chanhub journal 2\nprocs 2\n0 make 2\n",
@@ -132,7 +133,7 @@ static void nobody_gets_them(void) {
         is("so many sent", (long long)c.sent, i + 1), is("so many received", (long long)c.received, i);
         is("got", (long long)chanhub_recv(hub, 0, 1).value.number, i);
     }
-    has_before("before", hub, "chanhub journal 1\nprocs 1\n0 make 1\n0 send 1 1\n0 recv 1\n0 send 1 2\n");
+    has_before("before", hub, "chanhub journal 1\nprocs 1\n0 make 1\n0 send 1 0\n0 recv 1\n0 send 1 1\n0 recv 1\n0 send 1 2\n");
     has_journal("present", hub, "chanhub journal 1\nprocs 1\n0 make 1\n0 send 1 2\n0 recv 1\n");
     is("cut", chanhub_cut(hub), 1);
     has_journal("present", hub, "chanhub journal 1\nprocs 1\n0 make 1\n");

@@ -12,9 +12,9 @@ static const char *folder;
 
 static const char *const texts[4] = {
     "chanhub journal 1\nprocs 1\n0 make 1\n0 send 1 1\n",
-    "chanhub journal 1\nprocs 1\n0 make 1\n0 send 1 1\n0 recv 1\n0 send 1 3\n",
-    "chanhub journal 1\nprocs 1\n0 make 1\n0 send 1 3\n0 recv 1\n0 send 1 5\n",
-    "chanhub journal 1\nprocs 1\n0 make 1\n0 send 1 5\n0 recv 1\n0 send 1 7\n",
+    "chanhub journal 1\nprocs 1\n0 make 1\n0 send 1 1\n0 recv 1\n0 send 1 3\n0 recv 1\n0 send 1 5\n",
+    "chanhub journal 1\nprocs 1\n0 make 1\n0 send 1 5\n0 recv 1\n0 send 1 7\n0 recv 1\n0 send 1 9\n",
+    "chanhub journal 1\nprocs 1\n0 make 1\n0 send 1 9\n0 recv 1\n0 send 1 11\n",
 };
 
 /* The path of this name in the folder, until the next one is asked for. */
@@ -63,9 +63,9 @@ static chanhub_files leave_four(const char *name) {
     chanhub *hub;
     if (chanhub_open_endless(&hub, 1, 1, 2, chanhub_write_chapter, &files)) exit(2);
     is("made", chanhub_make(hub, 0, 1).port, 1);
-    for (unsigned i = 1; i < 8; i += 2) {
+    for (unsigned i = 1; i < 12; i += 2) {
         is("sent", chanhub_send(hub, 0, 1, chanhub_number(i)).what, CHANHUB_SENT);
-        if (i < 7) is("got", (long long)chanhub_recv(hub, 0, 1).value.number, i);
+        if (i < 11) is("got", (long long)chanhub_recv(hub, 0, 1).value.number, i);
     }
     chanhub_free(hub);
     end_errors(standard);

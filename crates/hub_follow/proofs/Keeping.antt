@@ -31,7 +31,7 @@ use Rattle.hub_follow.specs.declared.not_made.NotMade.TheVariants.{Refused, NotY
 use Rattle.hub_follow.specs.Follow.{FollowKeeps, FollowView, FollowsStep, IsAdmitted, IsAt, IsBeginning, IsDue, IsFree, IsNext, diverged_at, diverged_by, made}
 use Rattle.hub_follow.specs.Follow.{FollowsAnew, follow_view, number_of, step_with, turn_of, with_locked, with_word}
 use Rattle.hub_follow.specs.Given.{GivenView}
-use Rattle.hub_follow.specs.Stands.{Follows, Passes, Stands, given_of, word_of}
+use Rattle.hub_follow.specs.Stands.{Follows, Passes, PassesGiven, Stands, given_of, word_of}
 use Rattle.hub_follow.proofs.Turns.{turn_here}
 
 -- ---- the next entry of the journal
@@ -169,6 +169,19 @@ step_with_own (Reopen p cap) = refl
 
 pub with_own : (e : Entry) → with_word (word_of e.step) e ≡ e
 with_own e = ap (λ s. record { pid = e.pid; step = s }) (step_with_own e.step)
+
+-- the hub that follows made it, or refused it
+pub rules_next : (l : FollowView) (e : Entry) (word : ℕ) (new : FollowView) (result : Result Event NotMade) → IsDue l (with_word word e)
+    → PassesGiven l (with_word word e) new result → FollowsStep l e new result
+rules_next l e word new result due given =
+    subst (λ (m : FollowView). FollowsStep l e m result) (sym given.stays) (step_next l e word new.locked result given.keeps due given.passes)
+
+-- and with its own word, as it was asked for
+pub own_rules : (l : FollowView) (e : Entry) (word : ℕ) (new : FollowView) (result : Result Event NotMade) → word ≡ word_of e.step
+    → IsDue l (with_word word e) → PassesGiven l e new result → FollowsStep l e new result
+own_rules l e word new result is due given =
+    rules_next l e word new result due
+    (subst (λ (f : Entry). PassesGiven l f new result) (sym (ap (λ n. with_word n e) is ∙ with_own e)) given)
 
 -- ---- a step that is not admitted
 

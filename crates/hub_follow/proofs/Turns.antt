@@ -179,8 +179,7 @@ before links turns left place n link es pid next told below number is leads are 
     let few : there.0.pid.0 < 256 = omega (arith, number, own, below) in
     let links_next : AreLinks links (place + 1) es = subst (λ k. AreLinks links k es) next leads in
     let turns_next : AreTurns turns (place + 1) es = subst (λ k. AreTurns turns k es) next are in
-    let link_is : link ≡ get_or turns there.0.pid.0 0 = read_at turns n link (omega (arith, number, below, are.whole)) is ∙ ap (λ k. get_or turns k 0) own in
-    (
+    let link_is : link ≡ get_or turns there.0.pid.0 0 = read_at turns n link (omega (arith, number, below, are.whole)) is ∙ ap (λ k. get_or turns k 0) own in (
       subst (λ k. AreLinks (set links place k) place es) (sym link_is) (links_before links turns place es there.0 there.1 few links_next turns_next),
       subst (λ k. AreTurns (set turns k place) place es) (sym own) (turns_before turns place es there.0 there.1 few turns_next),
     )

@@ -9,7 +9,7 @@ use Rattle.hub_follow.specs.declared.follower.Stand.{Stand}
 use Rattle.hub_follow.specs.declared.follower.Stand.TheVariants.{Next, Early, Other, Over}
 use Rattle.hub_follow.specs.declared.not_made.NotMade.{NotMade}
 use Rattle.hub_follow.specs.declared.not_made.NotMade.TheVariants.{Refused}
-use Rattle.hub_follow.specs.Follow.{FollowKeeps, FollowView, made, with_word}
+use Rattle.hub_follow.specs.Follow.{FollowKeeps, FollowView, made, with_locked, with_word}
 use Rattle.hub_follow.specs.Given.{GivenView, turn_from}
 
 -- the choice word of a call; 0 for any other step
@@ -43,3 +43,9 @@ abbrev pub Passes : LockedView → Entry → LockedView → Result Event NotMade
 Passes old e new (Ok answer) = ServesStep old e new (Ok answer)
 Passes old e new (Err (Refused f)) = Refuses old.hub e f × (new ≡ old)
 Passes old e new (Err other) = ⊥
+
+-- its hub made the step or refused it
+pub record PassesGiven (old : FollowView) (e : Entry) (new : FollowView) (result : Result Event NotMade) : Type 0 where
+  pub keeps : FollowKeeps old
+  pub passes : Passes old.locked e new.locked result
+  pub stays : new ≡ with_locked new.locked old

@@ -12,7 +12,7 @@ ghost use Rattle.hub_live.specs.Locked.{IsReplyTo, answer_for, none_waits, witho
 ghost use Rattle.hub_chain.specs.Faults.{IsNotLegal};
 ghost use Rattle.hub_story.specs.Clock.{clock_of};
 ghost use Rattle.hub_follow.specs.Follow.{FollowsAnew, FollowsStep, IsAdmitted, IsBeginning, IsDue, IsFree, IsOfIts, diverged_by, next_of, number_of, step_of, with_locked, with_word};
-ghost use Rattle.hub_follow.specs.Stands.{Passes, Stands, given_of, word_of};
+ghost use Rattle.hub_follow.specs.Stands.{Passes, PassesGiven, Stands, given_of, word_of};
 ghost use Rattle.hub_follow.specs.declared.not_made.NotMade.TheVariants.{Diverged, NotYet};
 
 use crate::NotMade;
@@ -267,7 +267,19 @@ impl Follower {
         requires due { IsDue self.old (with_word word entry.now) }
         ensures rules { FollowsStep self.old entry.now self.new result }
     {
-        let answer = pass(&mut self.hub, &with_word(entry, word))?;
+        if word == word_of(&entry.step) {
+            return self.step_given(entry);
+        }
+        self.step_given(&with_word(entry, word))
+    }
+
+    /// Makes the next step of the journal, which is this one.
+    fn step_given(&mut self, entry: &EntryRef<'_>) -> Result<Event, NotMade>
+        requires fits { is_of self.old.locked.hub.terms.head.edition entry.now.step ≡ true }
+        requires due { IsDue self.old entry.now }
+        ensures { PassesGiven self.old entry.now self.new result }
+    {
+        let answer = pass(&mut self.hub, entry)?;
         self.given.advance();
         Ok(answer)
     }

@@ -9,8 +9,10 @@ returns-in-Early c =
     let admitted : IsAdmitted l c.args.entry.now = search rules in
     let following : l.diverged ≡ None = search rules in
     let keeps = subst FollowKeeps c.self.view_is c.self.invariant.keeps in
-    record { rules = rw (c.not_yet.ensures.unchanged, c.in-Early.ensures.unchanged, c.not_yet.ensures.told)
-          (early l c.args.entry.now keeps admitted following c.in-Early.ensures.stands) }
+    record {
+      rules = rw (c.not_yet.ensures.unchanged, c.in-Early.ensures.unchanged, c.not_yet.ensures.told)
+          (early l c.args.entry.now keeps admitted following c.in-Early.ensures.stands);
+    }
 
 pub returns-in-Other : goal.returns-in-Other
 returns-in-Other c =

@@ -11,7 +11,7 @@ returns-then-place-len-clause-behind c =
     let below : pid < 256 = omega arith in
     let turns = c.self.inside.turns.items in
     let read = read_at turns pid c.index.result.now (omega (arith, below, c.self.invariant.1.whole))
-        (c.index.ensures ∙ ap (λ n. get_or turns n c.index.result.now) c.from.ensures) in
+    (c.index.ensures ∙ ap (λ n. get_or turns n c.index.result.now) c.from.ensures) in
     let first : First g = subst First c.self.view_is (read ∙ c.self.invariant.1.first pid below) in
     turn_behind (turn_from pid g.made g.entries) g.made (length g.entries) c.index.result.now (turn_within pid g.made g.entries) first
     (search rules)
@@ -24,7 +24,7 @@ returns-else-place-len-clause-turn c =
     let below : pid < 256 = omega arith in
     let turns = c.self.inside.turns.items in
     let read = read_at turns pid c.index.result.now (omega (arith, below, c.self.invariant.1.whole))
-        (c.index.ensures ∙ ap (λ n. get_or turns n c.index.result.now) c.from.ensures) in
+    (c.index.ensures ∙ ap (λ n. get_or turns n c.index.result.now) c.from.ensures) in
     let first : First g = subst First c.self.view_is (read ∙ c.self.invariant.1.first pid below) in
     turn_none (turn_from pid g.made g.entries) g.made (length g.entries) c.index.result.now (turn_within pid g.made g.entries) first
     (search rules)

@@ -17,6 +17,13 @@ uint8_t look_closer(chanhub *h, unsigned pid, int step) {
     return h->state == ENDED ? CHANHUB_DIVERGED : refusal_by_clock(h, pid, step == EXIT);
 }
 
+/* The same; leaves the lock if it cannot. */
+uint8_t enter_closer(chanhub *h, unsigned pid, int step) {
+    uint8_t why = look_closer(h, pid, step);
+    if (why) leave_lock(h);
+    return why;
+}
+
 /* Does what follows from a step that parked, and waits for its answer for so many nanoseconds. Holds the lock, but not while it waits. */
 chanhub_told await_answer(chanhub *h, unsigned pid, const struct told *t, uint64_t nanoseconds) {
     h->open |= only(pid);
@@ -29,23 +36,22 @@ chanhub_told await_answer(chanhub *h, unsigned pid, const struct told *t, uint64
  * hands out the chapter that it made fall out, sees to the clock, and where it parked, waits for so many nanoseconds. Holds the
  * lock since the step, and leaves it. */
 chanhub_told finish_by_waking(chanhub *h, uint8_t pid, const struct told *t, uint64_t nanoseconds) {
-    chanhub_told answer = t->it;
-    uint64_t woken = 0;
     if (t->it.what == CHANHUB_WAITING) {
-        answer = await_answer(h, pid, t, nanoseconds);
-    } else {
-        woken = note_step(h, t);
-        bool claimed = claims_chapter(h, t->chapter);
-        if (claimed || is_due(h)) {
-            wake(h, woken);
-            woken = 0;
-            if (claimed) hand_out(h, pid);
-            if (is_due(h)) settle(h, pid);
-        }
+        chanhub_told answer = await_answer(h, pid, t, nanoseconds);
+        leave_lock(h);
+        return answer;
+    }
+    uint64_t woken = note_step(h, t);
+    bool claimed = claims_chapter(h, t->chapter);
+    if (claimed || is_due(h)) {
+        wake(h, woken);
+        woken = 0;
+        if (claimed) hand_out(h, pid);
+        if (is_due(h)) settle(h, pid);
     }
     leave_lock(h);
     wake(h, woken);
-    return answer;
+    return t->it;
 }
 
 /* What each of these calls does, and returns: it is refused as a bad call where that is so; or it enters, makes its step and shows

@@ -199,6 +199,7 @@ chanhub_told wait_for(chanhub *h, unsigned pid, uint64_t nanoseconds);
 
 /* calls.c */
 uint8_t look_closer(chanhub *h, unsigned pid, int step);
+uint8_t enter_closer(chanhub *h, unsigned pid, int step);
 chanhub_told await_answer(chanhub *h, unsigned pid, const struct told *t, uint64_t nanoseconds);
 chanhub_told finish_by_waking(chanhub *h, uint8_t pid, const struct told *t, uint64_t nanoseconds);
 
@@ -307,9 +308,7 @@ enum { EXIT = -1, ANY_STEP = 0 };
 
 static inline uint8_t enter(chanhub *h, unsigned pid, int step) {
     take_lock(h);
-    uint8_t why = (h->open | h->closer) & only(pid) ? look_closer(h, pid, step) : 0;
-    if (why) leave_lock(h);
-    return why;
+    return (h->open | h->closer) & only(pid) ? enter_closer(h, pid, step) : 0;
 }
 
 /* Whether the step that came to this is to be made again, since its turn had not come, or there was no room for another chapter.

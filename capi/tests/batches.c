@@ -254,20 +254,31 @@ static void deadlines(void) {
     chanhub_free(hub);
 }
 
-/* Steps are kept for the call that waits with a deadline; those of other calls are refused that much sooner. */
-static void kept_steps(void) {
+/* Process 1 waits with a deadline, and 5 steps are left for the other calls: one is kept to end its call. */
+static void open_with_5_left(void) {
     open_with_clock(2, 12);
     chanhub_make(hub, 0, 8), chanhub_make(hub, 0, 0);
-    chanhub_case one = { .port = 2 };
-    is("waiting", chanhub_begin_until(hub, 1, &one, 1, false, 0, FAR_OFF).what, CHANHUB_WAITING);
+    is("waiting", chanhub_begin_recv_up_to(hub, 1, 2, values, 1, FAR_OFF, &count).what, CHANHUB_WAITING);
     is("steps left", (long long)chanhub_steps_left(hub), 5);
-    is_told("sent", send_all(0, 1, 1, 3), CHANHUB_SENT, 3);
-    has_got("those for which there are steps", recv_up_to(0, 1, MOST), 1, 2);
+}
+
+static void free_with_none_left(void) {
     is_fault("full", recv_up_to(0, 1, MOST), CHANHUB_JOURNAL_FULL);
     is_fault("full", send_all(0, 1, 1, 3), CHANHUB_JOURNAL_FULL);
     is("its deadline", chanhub_expire(hub, 1), 1);
     is("timed out", chanhub_resume(hub, 1, 0).what, CHANHUB_TIMED_OUT);
     chanhub_free(hub);
+}
+
+static void kept_steps(void) {
+    open_with_5_left();
+    is_told("sent", send_all(0, 1, 1, 3), CHANHUB_SENT, 3);
+    has_got("those for which there are steps", recv_up_to(0, 1, MOST), 1, 2);
+    free_with_none_left();
+    open_with_5_left();
+    is_fault("full in the middle", send_all(0, 1, 1, 7), CHANHUB_JOURNAL_FULL);
+    is("those for which there were steps", (long long)count, 5);
+    free_with_none_left();
 }
 
 /* ---- Journals that are followed, by one thread. ---- */

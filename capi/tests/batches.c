@@ -226,27 +226,35 @@ static void begun(void) {
     chanhub_free(hub);
 }
 
+/* The deadline of the open call of process 0 passes. */
+static void passes(void) {
+    is("its deadline", chanhub_expire(hub, 0), 1);
+    is("timed out", chanhub_resume(hub, 0, 0).what, CHANHUB_TIMED_OUT);
+}
+
 static void deadlines(void) {
     open_with_clock(1, 100);
     chanhub_make(hub, 0, 2);
-    is_told("in the middle", send_until(0, 1, 1, 4, chanhub_in(5 * MILLISECOND)), CHANHUB_TIMED_OUT, 2);
+    is_told("waiting in the middle", begin_send_all(0, 1, 1, 4, FAR_OFF), CHANHUB_WAITING, 2);
+    passes();
     is_told("passed", send_until(0, 1, 7, 1, 0), CHANHUB_TIMED_OUT, 0);
     has_got("got", chanhub_recv_up_to(hub, 0, 1, values, MOST, 0, &count), 1, 2);
     is_told("passed", chanhub_recv_up_to(hub, 0, 1, values, MOST, 0, &count), CHANHUB_TIMED_OUT, 0);
-    is_told("it passed", chanhub_recv_up_to(hub, 0, 1, values, MOST, chanhub_in(MILLISECOND), &count), CHANHUB_TIMED_OUT, 0);
+    is_told("waiting", chanhub_begin_recv_up_to(hub, 0, 1, values, MOST, FAR_OFF, &count), CHANHUB_WAITING, 0);
+    passes();
     is_told("passed, with room", send_until(0, 1, 1, 2, 0), CHANHUB_SENT, 2);
     has_journal("at most five steps for one that waits", hub,
                 "chanhub journal 2\nprocs 2\n1 recv 0\n0 make 2\n0 send 1 1\n0 send 1 2\n0 select 0 s1:3 default\n0 cancel 1\n"
                 "0 send 1 3\n1 cancel 0\n1 recv 0\n0 select 0 s1:7 default\n0 recv 1\n0 recv 1\n0 select 0 r1 default\n"
                 "0 select 0 r1 default\n0 cancel 1\n0 recv 1\n1 cancel 0\n1 recv 0\n0 send 1 1\n0 send 1 2\n");
+    has_got("got", recv_up_to(0, 1, MOST), 1, 2);
+    is_told("in the middle", send_until(0, 1, 1, 4, chanhub_in(5 * MILLISECOND)), CHANHUB_TIMED_OUT, 2);
+    has_got("got", recv_up_to(0, 1, MOST), 1, 2);
+    is_told("it passes", chanhub_recv_up_to(hub, 0, 1, values, MOST, chanhub_in(MILLISECOND), &count), CHANHUB_TIMED_OUT, 0);
     chanhub_free(hub);
 
     open_with_clock(2, 100);
     chanhub_make(hub, 0, 2);
-    is_told("waiting", begin_send_all(0, 1, 1, 3, FAR_OFF), CHANHUB_WAITING, 2);
-    is("its deadline", chanhub_expire(hub, 0), 1);
-    is("timed out", chanhub_resume(hub, 0, 0).what, CHANHUB_TIMED_OUT);
-    has_got("got", recv_up_to(1, 1, MOST), 1, 2);
     is("waiting", chanhub_begin_recv_up_to(hub, 1, 1, values, MOST, FAR_OFF, &count).what, CHANHUB_WAITING);
     is_told("while the clock is awake", send_until(0, 1, 1, 3, FAR_OFF), CHANHUB_SENT, 3);
     is("the one", (long long)chanhub_resume(hub, 1, 0).value.number, 1);

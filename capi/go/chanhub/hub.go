@@ -39,8 +39,8 @@
 //
 // One lock orders all steps. What a goroutine wrote before a send or a close is visible to the goroutine that receives the value or
 // learns of the close. What a goroutine wrote before it received a value from a port is visible to a goroutine whose later send
-// needed the room that this receive made, whether or not that send had to wait. The race detector takes all calls
-// through cgo to be ordered, even those that pass no value to each other, so it can miss some races.
+// needed the room that this receive made, whether or not that send had to wait. The race detector knows this order. But it takes all
+// calls through cgo to be ordered, even those that pass no value to each other, so it can miss some races.
 //
 // # Values of any type
 //
@@ -67,7 +67,7 @@
 //
 // # Threads
 //
-// Each call goes through cgo. A goroutine whose call waits holds an operating system thread, so the calls of a hub may hold up to
+// Each call goes through cgo; [Seat.SendAll] and [Seat.RecvUpTo] do so once for many values. A goroutine whose call waits holds an operating system thread, so the calls of a hub may hold up to
 // 64 threads. Other goroutines keep running.
 //
 // # The library

@@ -40,9 +40,8 @@ import (
 	"sync"
 )
 
-// SendAll sends the values on a port, one after the other, as [Seat.Send] does. This takes less time than so many calls of Send, and waits
-// as often as they would. It returns how many were sent: all of them, unless err says why the next one was not. Without values it makes
-// no step.
+// SendAll sends the values on a port, in order. Each is a step of its own, as that of [Seat.Send], and SendAll waits as often as it must.
+// It returns how many were sent: all of them, unless err says why the next one was not.
 func (s *Seat) SendAll(port Port, values []Value) (sent int, err error) {
 	if len(values) == 0 {
 		return 0, nil
@@ -55,9 +54,9 @@ func (s *Seat) SendAll(port Port, values []Value) (sent int, err error) {
 	return int(all.count), s.end(&told)
 }
 
-// RecvUpTo receives values from a port into values. It waits for the first one, as [Seat.Recv] does, and then receives others as long as
-// the buffer of the port holds one and values has room. It returns how many it received: at least one, unless err says why not.
-// It returns [FaultBadCall] if values has no room.
+// RecvUpTo receives values from a port into values. It waits for the first one, as [Seat.Recv] does, and then takes more while the
+// port's buffer holds any and values has room. A value for which it had to wait comes alone. RecvUpTo returns how many it received: at
+// least one, unless err says why not. It returns [FaultBadCall] if values is empty.
 func (s *Seat) RecvUpTo(port Port, values []Value) (received int, err error) {
 	if len(values) == 0 {
 		return 0, FaultBadCall
@@ -70,8 +69,7 @@ func (s *Seat) RecvUpTo(port Port, values []Value) (received int, err error) {
 	return int(all.count), s.end(&told)
 }
 
-// SendAllContext is like [Seat.SendAll], but gives up once the context is done and a value would have to wait, as [Seat.SendContext] does.
-// The values before that one were sent.
+// SendAllContext is like [Seat.SendAll], but gives up once the context is done, as [Seat.SendContext] does.
 func (s *Seat) SendAllContext(ctx context.Context, port Port, values []Value) (sent int, err error) {
 	if len(values) == 0 {
 		return 0, nil
@@ -99,8 +97,7 @@ func (s *Seat) beginAll(ctx context.Context, port Port, values []Value) (sent in
 	return sent, told
 }
 
-// RecvUpToContext is like [Seat.RecvUpTo], but gives up once the context is done, as [Seat.SendContext] does. If it had to wait, it
-// receives no other value than the one for which it waited.
+// RecvUpToContext is like [Seat.RecvUpTo], but gives up once the context is done, as [Seat.SendContext] does.
 func (s *Seat) RecvUpToContext(ctx context.Context, port Port, values []Value) (received int, err error) {
 	if len(values) == 0 {
 		return 0, FaultBadCall
@@ -118,7 +115,7 @@ func (s *Seat) RecvUpToContext(ctx context.Context, port Port, values []Value) (
 	return received, errorOf(ctx, s.end(&told))
 }
 
-// SendAll sends the values, one after the other, as [Seat.SendAll] does. Those that were not sent do not stay in the Chan.
+// SendAll sends the values, as [Seat.SendAll] does. Those that were not sent do not stay in the Chan.
 func (c *Chan[T]) SendAll(seat *Seat, values []T) (sent int, err error) {
 	if err := c.isFor(seat); err != nil {
 		return 0, err

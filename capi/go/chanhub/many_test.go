@@ -51,7 +51,8 @@ func TestManyValuesAreThoseOfSoManyCalls(t *testing.T) {
 		t.Errorf("received %v", room)
 	}
 	journal, _ := hub.Journal()
-	if wanted := "0 make 3\n0 send 1 7\n0 send 1 #00ff\n0 send 1 9\n0 recv 1\n0 recv 1\n0 recv 1\n"; !strings.HasSuffix(string(journal), "\nprocs 1\n"+wanted) {
+	wanted := "\n0 make 3\n0 send 1 7\n0 send 1 #00ff\n0 send 1 9\n0 recv 1\n0 recv 1\n0 recv 1\n"
+	if !strings.HasSuffix(string(journal), "\nprocs 1"+wanted) {
 		t.Errorf("journal %s", journal)
 	}
 }

@@ -1045,7 +1045,7 @@ impl Sender {
         seat.send(self.port, value.into())
     }
 
-    /// Sends values, one after the other, as so many calls of [`send`](Sender::send) do, in less time. It waits as often as they would.
+    /// Sends values, in order. Each is a step of its own, as that of [`send`](Sender::send), and this waits as often as it must.
     ///
     /// # Examples
     ///
@@ -1138,8 +1138,8 @@ impl Receiver {
         seat.recv(self.port)
     }
 
-    /// Receives up to `most` values, of which 1,024 are the most. It waits for the first one, and then takes others as long as the
-    /// buffer holds one.
+    /// Receives up to `most` values, but never more than 1,024. Waits for the first one, then takes more while the buffer holds any. A
+    /// value for which it had to wait comes alone.
     ///
     /// # Errors
     ///

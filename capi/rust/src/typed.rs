@@ -446,8 +446,7 @@ impl<'a, T> BoundSender<'a, T> {
         }
     }
 
-    /// Sends values, one after the other, as so many calls of [`send`](BoundSender::send) do, in less time. It waits as often as they
-    /// would.
+    /// Sends values, in order. Each is a step of its own, as that of [`send`](BoundSender::send), and this waits as often as it must.
     ///
     /// # Errors
     ///
@@ -569,8 +568,8 @@ impl<'a, T> BoundReceiver<'a, T> {
             .map(|number| channel.take(number))
     }
 
-    /// Receives up to `most` values, of which 1,024 are the most. It waits for the first one, and then takes others as long as the
-    /// buffer holds one.
+    /// Receives up to `most` values, but never more than 1,024. Waits for the first one, then takes more while the buffer holds any. A
+    /// value for which it had to wait comes alone.
     ///
     /// ```
     /// # use chanhub::{typed, Edition, Ended, Hub};

@@ -156,6 +156,8 @@ struct Ends<'a> {
 enum Call {
     Send,
     Recv,
+    SendAll,
+    RecvUpTo,
     TrySend,
     TryRecv,
     SelectMacro,
@@ -172,6 +174,11 @@ impl Ends<'_> {
         match call {
             Call::Send => Ok(self.words.send(word).map(|()| SENT)?),
             Call::Recv => self.from_words.recv().map(number),
+            Call::SendAll => Ok(self.numbers.send_all([value; 3]).map(|()| SENT)?),
+            Call::RecvUpTo => self
+                .from_numbers
+                .recv_up_to(2)
+                .map(|came| came.iter().sum()),
             Call::TrySend => match self.numbers.try_send(value) {
                 Err(TrySendError::Full(_)) => Ok(NOTHING),
                 Err(TrySendError::Ended(_, ended)) => Err(ended),
@@ -255,6 +262,14 @@ fn typed_senders_are_repeated() {
     are_repeated(|pid| match pid {
         0 => vec![Call::Recv; 80],
         _ => vec![Call::Send; 20],
+    });
+}
+
+#[test]
+fn many_values_at_once_are_repeated() {
+    are_repeated(|pid| match pid {
+        0 | 1 => vec![Call::RecvUpTo; 40],
+        _ => vec![Call::SendAll; 8],
     });
 }
 

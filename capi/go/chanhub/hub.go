@@ -326,11 +326,14 @@ func (h *Hub) has(pid int) bool {
 	return 0 <= pid && pid < len(h.processes)-1
 }
 
-// numbersFor returns the numbers of the next values that a process gives to Chans: the first, after which each is 100 more. The hub will
-// refuse their sends if there is no such process. They depend on nothing that other processes do, so a run that is followed sends the
-// same numbers.
+// numbersFor returns the numbers of the next values that a process gives to Chans: the first, after which each is 100 more. They depend
+// on nothing that other processes do, so a run that is followed sends the same numbers. If there is no such process, the hub will refuse
+// their sends, and they are nobody else's.
 func (h *Hub) numbersFor(pid, count int) (first uint64) {
 	given := atomic.AddUint64(&h.process(pid).given, uint64(count))
+	if !h.has(pid) {
+		pid = 99
+	}
 	return 100*(given-uint64(count)+1) + uint64(pid)
 }
 

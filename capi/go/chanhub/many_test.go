@@ -78,6 +78,18 @@ func TestManyValuesAreRefused(t *testing.T) {
 	toldOf(t, "another hub", received, err, 0, chanhub.FaultBadCall)
 }
 
+func TestASeatOfNoProcessSendsNothing(t *testing.T) {
+	hub := open(t, chanhub.Edition1, 1, 100)
+	c := makeChan[string](t, hub.Seat(0), 3)
+	told(t, "send", c.Send(hub.Seat(0), "a"), nil)
+	sent, err := c.SendAll(hub.Seat(100), []string{"b", "c"})
+	toldOf(t, "no such process", sent, err, 0, chanhub.FaultNoProcess)
+	told(t, "no such process", c.Send(hub.Seat(-1), "d"), chanhub.FaultBadCall)
+	if got, err := c.Recv(hub.Seat(0)); got != "a" || err != nil {
+		t.Errorf("received %q, %v", got, err)
+	}
+}
+
 // What was sent before a send fails stays sent, and what was not does not stay in the Chan.
 func TestASendOfManyFailsInTheMiddle(t *testing.T) {
 	for name, row := range map[string]struct {

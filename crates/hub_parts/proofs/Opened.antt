@@ -40,10 +40,11 @@ IsBelow n (Some pid) = pid.0 < n
 pub told_below : (places : List LastCall) (os : List ℕ) (n ticket : ℕ) → AllByRecursion (λ q. q < n) os
     → IsBelow n (pid_at (calls_of places os) ticket)
 told_below places [] n ticket a = tt
-told_below places (o ∷ os) n ticket a = elim ((last_of places o).ticket == ticket) as (λ b. IsBelow n (cond b (Some (record { 0 = o })) (pid_at (calls_of places os) ticket))) [
-  | true ↦ a.0
-  | false ↦ told_below places os n ticket a.1
-]
+told_below places (o ∷ os) n ticket a =
+    elim ((last_of places o).ticket == ticket) as (λ b. IsBelow n (cond b (Some (record { 0 = o })) (pid_at (calls_of places os) ticket))) [
+      | true ↦ a.0
+      | false ↦ told_below places os n ticket a.1
+    ]
 
 pub calls_of-filter : (places : List LastCall) (pid : Pid) (os : List ℕ)
     → calls_of places (filter (λ o. not (o == pid.0)) os) ≡ still_open pid (calls_of places os)

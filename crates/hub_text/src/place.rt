@@ -1,7 +1,7 @@
 //! A place that entries are read into, one after another.
 //!
 //! It keeps the room for a call's cases from one entry to the next: a step that is no call sets only what it is, and a
-//! call only the cases that it has. Nothing is cleared.
+//! call only the cases that it has.
 
 ghost use Rattle.std.specs.Prelude.{◌≡◌, ◌∷◌, [], false};
 ghost use Rattle.hub_base.specs.Lines.{call};

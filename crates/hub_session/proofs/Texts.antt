@@ -55,6 +55,10 @@ put_there r was now j head entry place number ps head_is entry_is place_is all p
 
 -- ---- a reading
 
+-- a piece that was put where nothing stood
+pub puts_first : (o : Option (List ℕ)) (there : Bool) (was first : List ℕ) → there ≡ true → was ≡ [] → Puts o there was first → Puts o true [] first
+puts_first o there was first so none puts = subst (λ (x : Bool × List ℕ). Puts o x.0 x.1 first) (λ i. (so i, none i)) puts
+
 -- the piece that was found is the first of those that are left
 found : (ps : List (List ℕ)) (number : ℕ) (first : List ℕ) → Puts (slice_get ps number) true [] first → drop number ps ≡ first ∷ drop (suc number) ps
 found [] zero first (wrong, put) = cc wrong

@@ -68,7 +68,11 @@ fn write_first(out: &mut Vec<u8>, edition: Edition, procs: u8) -> Result<(), NoM
 
 /// Appends the line of this entry: whether there is such an entry. Refused if memory is.
 #[inline(always)]
-fn put_line(out: &mut Vec<u8>, edition: Edition, entry: Option<EntryRef<'_>>) -> Result<bool, NoMemory>
+fn put_line(
+    out: &mut Vec<u8>,
+    edition: Edition,
+    entry: Option<EntryRef<'_>>,
+) -> Result<bool, NoMemory>
     requires fits { IfSome entry (λ e. is_of edition e.step ≡ true) }
     ensures ok { IfOk result (λ there. Puts (option_map line entry.entry) there out.old.items out.new.items) }
     ensures err { OnErr result (out.new.items ≡ out.old.items) }
@@ -84,7 +88,7 @@ fn put_line(out: &mut Vec<u8>, edition: Edition, entry: Option<EntryRef<'_>>) ->
 
 /// The same of a piece of a text: the head lines, or for another number the line of this entry.
 #[inline(always)]
-fn put_head_or_line(
+fn put_piece(
     out: &mut Vec<u8>,
     head: Head,
     number: u64,
@@ -127,7 +131,7 @@ fn put_given(out: &mut Vec<u8>, hub: &Follower, number: u64) -> Result<bool, NoM
     ensures lawful { IfSome (given_in (Following hub.now)) IsLegalJournal }
 {
     let entry = hub.given(place_of(number));
-    put_head_or_line(out, hub.locked().head(), number, by_slice(&entry))
+    put_piece(out, hub.locked().head(), number, by_slice(&entry))
 }
 
 /// Appends the line of the step at which a hub diverged, in the same way: whether there is one.
@@ -177,8 +181,8 @@ impl<'a> Source<'a> {
     {
         let place = place_of(number);
         match self {
-            Source::Locked(hub) => put_head_or_line(out, hub.head(), number, hub.entry(place, room)),
-            Source::Chapter(hub) => put_head_or_line(out, hub.head(), number, hub.entry(place, room)),
+            Source::Locked(hub) => put_piece(out, hub.head(), number, hub.entry(place, room)),
+            Source::Chapter(hub) => put_piece(out, hub.head(), number, hub.entry(place, room)),
             Source::Given(hub) => put_given(out, hub, number),
             Source::Asked(hub) if number == 0 => put_asked(out, hub),
             Source::Asked(_) | Source::Nothing => Ok(false),

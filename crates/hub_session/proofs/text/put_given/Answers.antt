@@ -3,8 +3,8 @@ use Rattle.hub_session.proofs.Fitting.{fits_at}
 use Rattle.hub_session.proofs.Texts.{put_there}
 use Rattle.hub_session.proofs.text.put_given.Goals as goal
 
-pub put_head_or_line-requires : goal.put_head_or_line-requires
-put_head_or_line-requires c =
+pub put_piece-requires : goal.put_piece-requires
+put_piece-requires c =
     let hub = c.args.hub.now in
     record {
       fits = rw (c.by_slice.ensures, c.given-entry.ensures.entry, c.head.ensures, c.locked.ensures)
@@ -14,5 +14,5 @@ put_head_or_line-requires c =
 pub returns-clause-ok : goal.returns-clause-ok
 returns-clause-ok c =
     let hub = c.args.hub.now in
-    put_there c.put_head_or_line.result c.args.out.now.items c.put_head_or_line.new.out.items (record { head = hub.locked.hub.terms.head; entries = hub.given }) c.head.result c.by_slice.result c.place_of.result c.args.number _
-    (rw (c.head.ensures, c.locked.ensures) refl) (c.by_slice.ensures ∙ c.given-entry.ensures.entry) c.place_of.ensures refl c.put_head_or_line.ensures.ok
+    put_there c.put_piece.result c.args.out.now.items c.put_piece.new.out.items (record { head = hub.locked.hub.terms.head; entries = hub.given }) c.head.result c.by_slice.result c.place_of.result c.args.number _
+    (rw (c.head.ensures, c.locked.ensures) refl) (c.by_slice.ensures ∙ c.given-entry.ensures.entry) c.place_of.ensures refl c.put_piece.ensures.ok

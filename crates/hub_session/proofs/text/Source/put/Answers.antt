@@ -5,15 +5,15 @@ use Rattle.hub_session.proofs.Fitting.{fits_at}
 use Rattle.hub_session.proofs.Texts.{put_there}
 use Rattle.hub_session.proofs.text.Source.put.Goals as goal
 
-pub put_head_or_line-requires : goal.put_head_or_line-requires
-put_head_or_line-requires c =
+pub put_piece-requires : goal.put_piece-requires
+put_piece-requires c =
     let hub = c.in-Locked.hub.now.hub in
     record {
       fits = rw (c.entry.ensures.entry, c.head.ensures) (fits_at hub.terms.head.edition hub.journal c.place_of-place.result c.entry.ensures.fits);
     }
 
-pub put_head_or_line-requires-in-Chapter : goal.put_head_or_line-requires-in-Chapter
-put_head_or_line-requires-in-Chapter c =
+pub put_piece-requires-in-Chapter : goal.put_piece-requires-in-Chapter
+put_piece-requires-in-Chapter c =
     let hub = c.in-Chapter.hub.now.memory.hub in
     record {
       fits = rw (c.entry-in-Chapter.ensures.entry, c.head-in-Chapter.ensures.value)
@@ -22,11 +22,11 @@ put_head_or_line-requires-in-Chapter c =
 
 pub returns-in-Locked-clause-ok : goal.returns-in-Locked-clause-ok
 returns-in-Locked-clause-ok c =
-    put_there c.put_head_or_line.result c.args.out.now.items c.put_head_or_line.new.out.items (journal_of c.in-Locked.hub.now.hub) c.head.result c.entry.result c.place_of-place.result c.args.number (pieces_by c.args.self.now)
-    c.head.ensures c.entry.ensures.entry c.place_of-place.ensures (ap pieces_by c.in-Locked.is) c.put_head_or_line.ensures.ok
+    put_there c.put_piece.result c.args.out.now.items c.put_piece.new.out.items (journal_of c.in-Locked.hub.now.hub) c.head.result c.entry.result c.place_of-place.result c.args.number (pieces_by c.args.self.now)
+    c.head.ensures c.entry.ensures.entry c.place_of-place.ensures (ap pieces_by c.in-Locked.is) c.put_piece.ensures.ok
 
 pub returns-in-Chapter-clause-ok : goal.returns-in-Chapter-clause-ok
 returns-in-Chapter-clause-ok c =
-    put_there c.put_head_or_line-in-Chapter.result c.args.out.now.items c.put_head_or_line-in-Chapter.new.out.items (journal_of c.in-Chapter.hub.now.memory.hub) c.head-in-Chapter.result c.entry-in-Chapter.result c.place_of-place.result c.args.number
+    put_there c.put_piece-in-Chapter.result c.args.out.now.items c.put_piece-in-Chapter.new.out.items (journal_of c.in-Chapter.hub.now.memory.hub) c.head-in-Chapter.result c.entry-in-Chapter.result c.place_of-place.result c.args.number
     (pieces_by c.args.self.now) c.head-in-Chapter.ensures.value c.entry-in-Chapter.ensures.entry c.place_of-place.ensures
-    (ap pieces_by c.in-Chapter.is) c.put_head_or_line-in-Chapter.ensures.ok
+    (ap pieces_by c.in-Chapter.is) c.put_piece-in-Chapter.ensures.ok

@@ -1,7 +1,6 @@
 -- The pieces of a journal's text, some at a time.
 use Rattle.std.specs.Prelude.{◌≡◌, ◌≤◌, ◌<◌, ◌+◌, ◌-◌, ◌++◌, ◌∷◌, [], ℕ, Bool, List, Option, None, Some, Result, IfOk, false, drop, length, slice_get, take, true}
-use Rattle.std.specs.List.{flat_map}
-use Rattle.std.proofs.Common.{◌∙◌, ap, append-nil, arith, inl, refl, subst, suc, sym, zero}
+use Rattle.std.proofs.Common.{◌∙◌, ap, arith, inl, refl, subst, suc, sym, zero}
 use Rattle.std.proofs.lemmas.List.{flat_map_more}
 use Rattle.std.proofs.lemmas.Option.{slice_get-map, slice_get_within}
 use Rattle.hub_base.specs.declared.head.Head.{Head}
@@ -17,10 +16,6 @@ use Rattle.hub_session.specs.Pieces.{Puts, PutsSome, Reads, joined, none_told, p
 pub piece_at : (j : JournalView) (number : ℕ) → piece_of j.head number (slice_get j.entries (number - 1)) ≡ slice_get (pieces j) number
 piece_at j zero = refl
 piece_at j (suc n) = let before : suc n - 1 ≡ n = omega arith in rw (before, slice_get-map) refl
-
--- no piece yet
-pub none_put : (left : List (List ℕ)) (was : List ℕ) → PutsSome left 0 was was
-none_put left was = record { there = omega arith; put = sym (append-nil was) }
 
 get-drop : (ps : List (List ℕ)) (first count n : ℕ) → n ≡ first + count → slice_get (drop first ps) count ≡ slice_get ps n
 get-drop ps zero count n is = let same : count ≡ n = omega (arith, is) in ap (slice_get ps) same

@@ -50,8 +50,8 @@ pub struct Session {
     pub(crate) chapter: Option<ShortHub>,
     /// Whether chapters that are no longer kept wait to be read. Else they go.
     pub(crate) hands_out: bool,
-    /// Where a piece of a text is put together.
-    pub(crate) piece: Vec<u8>,
+    /// Where pieces of a text are put together.
+    pub(crate) pieces: Vec<u8>,
 }
 
 impl Session {
@@ -110,7 +110,7 @@ impl Session {
             hub,
             chapter: None,
             hands_out,
-            piece: Vec::new(alloc),
+            pieces: Vec::new(alloc),
         }
     }
 }

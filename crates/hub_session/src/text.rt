@@ -271,6 +271,6 @@ impl Session {
         ensures lawful { IfSome (journal_of_text text self.old) IsLegalJournal }
         ensures stays { StaysIn self.old self.new }
     {
-        Source::of_text(text, &self.hub, &self.chapter).read(&mut self.piece, number, place)
+        Source::of_text(text, &self.hub, &self.chapter).read(&mut self.pieces, number, place)
     }
 }

@@ -1,4 +1,3 @@
-use Rattle.std.proofs.Common.{rules}
 use Rattle.hub_follow.proofs.Keeping.{with_own}
 use Rattle.hub_follow.proofs.follower.word_at.Goals as goal
 

@@ -1,5 +1,4 @@
-use Rattle.std.proofs.Common.{rules, ◌≡◌, ◌≤◌, ◌<◌, ◌+◌, ◌-◌, arith}
-use Rattle.hub_follow.specs.Given.{AreLinks, AreTurns}
+use Rattle.std.proofs.Common.{◌≡◌, ◌-◌, arith}
 use Rattle.hub_follow.proofs.Turns.{before, told_within}
 use Rattle.hub_follow.proofs.given.links_of.Goals as goal
 

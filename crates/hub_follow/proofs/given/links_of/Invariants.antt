@@ -1,4 +1,4 @@
-use Rattle.std.proofs.Common.{◌≡◌, ◌≤◌, length}
+use Rattle.std.proofs.Common.{◌≤◌, length}
 use Rattle.hub_follow.specs.Given.{AreLinks, AreTurns}
 use Rattle.hub_follow.proofs.given.links_of.Given as goal
 

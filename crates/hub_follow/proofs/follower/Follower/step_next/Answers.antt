@@ -1,4 +1,4 @@
-use Rattle.std.proofs.Common.{◌≡◌, ◌∙◌}
+use Rattle.std.proofs.Common.{◌∙◌}
 use Rattle.hub_follow.proofs.Keeping.{own_rules, rules_next}
 use Rattle.hub_follow.proofs.follower.Follower.step_next.Goals as goal
 

@@ -1,4 +1,4 @@
-use Rattle.std.proofs.Common.{rules, ◌≡◌, ◌∙◌, ◌≤◌, ◌<◌, arith, length, get_or, ap, subst}
+use Rattle.std.proofs.Common.{rules, ◌≡◌, ◌∙◌, ◌<◌, arith, length, get_or, ap, subst}
 use Rattle.hub_follow.specs.Given.{GivenView, place_from, turn_from}
 use Rattle.hub_follow.proofs.Turns.{read_at, turn_behind, turn_none, turn_within}
 use Rattle.hub_follow.proofs.given.Given.turn.Goals as goal

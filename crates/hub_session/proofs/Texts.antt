@@ -1,5 +1,6 @@
 -- The pieces of a journal's text, some at a time.
-use Rattle.std.specs.Prelude.{◌≡◌, ◌≤◌, ◌<◌, ◌+◌, ◌-◌, ◌++◌, ◌∷◌, [], ℕ, Bool, List, Option, None, Some, Result, IfOk, false, drop, length, slice_get, take, true}
+use Rattle.std.specs.Prelude.{◌≡◌, ◌≤◌, ◌<◌, ◌+◌, ◌-◌, ◌++◌, ◌∷◌, [], ℕ, Bool, List, Option, None, Some}
+use Rattle.std.specs.Prelude.{Result, IfOk, false, drop, length, slice_get, take, true}
 use Rattle.std.proofs.Common.{◌∙◌, ap, arith, inl, refl, subst, suc, sym, zero}
 use Rattle.std.proofs.lemmas.List.{flat_map_more}
 use Rattle.std.proofs.lemmas.Option.{slice_get-map, slice_get_within}

@@ -14,5 +14,7 @@ put_piece-requires c =
 pub returns-clause-ok : goal.returns-clause-ok
 returns-clause-ok c =
     let hub = c.args.hub.now in
-    put_there c.put_piece.result c.args.out.now.items c.put_piece.new.out.items (record { head = hub.locked.hub.terms.head; entries = hub.given }) c.head.result c.by_slice.result c.place_of.result c.args.number _
-    (rw (c.head.ensures, c.locked.ensures) refl) (c.by_slice.ensures ∙ c.given-entry.ensures.entry) c.place_of.ensures refl c.put_piece.ensures.ok
+    let put = c.put_piece in
+    put_there put.result c.args.out.now.items put.new.out.items (record { head = hub.locked.hub.terms.head; entries = hub.given })
+    c.head.result c.by_slice.result c.place_of.result c.args.number _ (rw (c.head.ensures, c.locked.ensures) refl)
+    (c.by_slice.ensures ∙ c.given-entry.ensures.entry) c.place_of.ensures refl put.ensures.ok

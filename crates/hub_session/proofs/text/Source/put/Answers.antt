@@ -22,11 +22,14 @@ put_piece-requires-in-Chapter c =
 
 pub returns-in-Locked-clause-ok : goal.returns-in-Locked-clause-ok
 returns-in-Locked-clause-ok c =
-    put_there c.put_piece.result c.args.out.now.items c.put_piece.new.out.items (journal_of c.in-Locked.hub.now.hub) c.head.result c.entry.result c.place_of-place.result c.args.number (pieces_by c.args.self.now)
-    c.head.ensures c.entry.ensures.entry c.place_of-place.ensures (ap pieces_by c.in-Locked.is) c.put_piece.ensures.ok
+    let put = c.put_piece in
+    put_there put.result c.args.out.now.items put.new.out.items (journal_of c.in-Locked.hub.now.hub) c.head.result c.entry.result
+    c.place_of-place.result c.args.number (pieces_by c.args.self.now) c.head.ensures c.entry.ensures.entry c.place_of-place.ensures
+    (ap pieces_by c.in-Locked.is) put.ensures.ok
 
 pub returns-in-Chapter-clause-ok : goal.returns-in-Chapter-clause-ok
 returns-in-Chapter-clause-ok c =
-    put_there c.put_piece-in-Chapter.result c.args.out.now.items c.put_piece-in-Chapter.new.out.items (journal_of c.in-Chapter.hub.now.memory.hub) c.head-in-Chapter.result c.entry-in-Chapter.result c.place_of-place.result c.args.number
-    (pieces_by c.args.self.now) c.head-in-Chapter.ensures.value c.entry-in-Chapter.ensures.entry c.place_of-place.ensures
-    (ap pieces_by c.in-Chapter.is) c.put_piece-in-Chapter.ensures.ok
+    let put = c.put_piece-in-Chapter in
+    put_there put.result c.args.out.now.items put.new.out.items (journal_of c.in-Chapter.hub.now.memory.hub) c.head-in-Chapter.result
+    c.entry-in-Chapter.result c.place_of-place.result c.args.number (pieces_by c.args.self.now) c.head-in-Chapter.ensures.value
+    c.entry-in-Chapter.ensures.entry c.place_of-place.ensures (ap pieces_by c.in-Chapter.is) put.ensures.ok

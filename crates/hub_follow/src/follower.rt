@@ -3,7 +3,7 @@
 //! Both hubs have the same edition, and as many processes. As long as nothing has diverged, what the one has made is a
 //! beginning of what the other has.
 
-ghost use Rattle.std.specs.Prelude.{◌≡◌, ◌≤◌, ℕ, IfOk, IfErr, IfSome, IfNone, IsTrue, None, Some, Err, true, length, slice_get};
+ghost use Rattle.std.specs.Prelude.{◌≡◌, ◌≤◌, ℕ, IfOk, IfErr, IfSome, IfNone, None, Some, Err, true, length, slice_get};
 ghost use Rattle.hub_base.specs.Head.{AreOf, is_of};
 ghost use Rattle.hub_base.specs.declared.limits.TheConstants.{MOST_BYTES};
 ghost use Rattle.hub_core.specs.HubView.{opened_hub};
@@ -82,17 +82,6 @@ fn with_word<'a>(entry: &EntryRef<'a>, word: u64) -> EntryRef<'a>
     }
 }
 
-/// Whether this entry stands at this place.
-fn has_plain(given: &ShortEntries, place: usize, entry: &EntryRef<'_>) -> bool
-    ensures { IsTrue result → (slice_get given.now place ≡ Some entry.now) }
-{
-    let mut room = CaseRoom::new();
-    match given.get(place, &mut room) {
-        Some(there) => is_same_entry(&there, entry),
-        None => false,
-    }
-}
-
 /// The choice word with which this entry stands at this place, if it does. The cases that stand there are put in the room for them.
 fn word_at(
     given: &ShortEntries,
@@ -103,7 +92,7 @@ fn word_at(
     ensures found { IfSome result (λ word. slice_get given.now place ≡ Some (with_word word entry.now)) }
     ensures none { IfNone result ((word : ℕ) → ¬ (slice_get given.now place ≡ Some (with_word word entry.now))) }
 {
-    if has_plain(given, place, entry) {
+    if given.has_plain(place, entry) {
         return Some(word_of(&entry.step));
     }
     let there = given.get(place, room)?;

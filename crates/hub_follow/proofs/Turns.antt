@@ -24,7 +24,8 @@ turn_by : (n place : ℕ) (es : List Entry) (e : Entry) → slice_get es place �
 turn_by n place es e at =
     ap (position_from (λ (f : Entry). f.pid.0 == n) place) (left place es e at ∙ ap (λ k. e ∷ drop k es) (sym (add-one place)))
 
-pub turn_here : (n place : ℕ) (es : List Entry) (e : Entry) → slice_get es place ≡ Some e → (e.pid.0 == n) ≡ true → turn_from n place es ≡ Some place
+pub turn_here : (n place : ℕ) (es : List Entry) (e : Entry) → slice_get es place ≡ Some e → (e.pid.0 == n) ≡ true
+    → turn_from n place es ≡ Some place
 turn_here n place es e at own = turn_by n place es e at ∙ ap (λ b. cond b (Some place) (turn_from n (place + 1) es)) own
 
 turn_later : (n place : ℕ) (es : List Entry) (e : Entry) → slice_get es place ≡ Some e → (e.pid.0 == n) ≡ false
@@ -32,7 +33,8 @@ turn_later : (n place : ℕ) (es : List Entry) (e : Entry) → slice_get es plac
 turn_later n place es e at other = turn_by n place es e at ∙ ap (λ b. cond b (Some place) (turn_from n (place + 1) es)) other
 
 -- so its place is this one, or the same as from the next one on
-place_here : (n place : ℕ) (es : List Entry) (e : Entry) → slice_get es place ≡ Some e → (e.pid.0 == n) ≡ true → place_from n place es ≡ place
+place_here : (n place : ℕ) (es : List Entry) (e : Entry) → slice_get es place ≡ Some e → (e.pid.0 == n) ≡ true
+    → place_from n place es ≡ place
 place_here n place es e at own = ap (λ o. unwrap_or o (length es)) (turn_here n place es e at own)
 
 place_later : (n place : ℕ) (es : List Entry) (e : Entry) → slice_get es place ≡ Some e → (e.pid.0 == n) ≡ false
@@ -47,7 +49,8 @@ within_cond true o place count later = (omega arith, omega arith)
 within_cond false None place count later = tt
 within_cond false (Some q) place count later = (omega (arith, later.0), omega (arith, later.1))
 
-within_list : (n place : ℕ) (es : List Entry) → IfSome (position_from (λ e. e.pid.0 == n) place es) (λ q. (place ≤ q) × (q < place + length es))
+within_list : (n place : ℕ) (es : List Entry)
+    → IfSome (position_from (λ e. e.pid.0 == n) place es) (λ q. (place ≤ q) × (q < place + length es))
 within_list n place [] = tt
 within_list n place (e ∷ es) = within_cond (e.pid.0 == n) (position_from (λ f. f.pid.0 == n) (place + 1) es) place (length es) (within_list n (place + 1) es)
 
@@ -61,15 +64,18 @@ turn_within n place es =
     within_all (turn_from n place es) place (length (drop place es)) (length es) (length-drop place es) (within_list n place (drop place es))
 
 -- where its place is within the journal it is there, else nowhere
-pub turn_told : (o : Option ℕ) (least all place : ℕ) → IfSome o (λ q. (least ≤ q) × (q < all)) → place ≡ unwrap_or o all → place < all → Some place ≡ o
+pub turn_told : (o : Option ℕ) (least all place : ℕ) → IfSome o (λ q. (least ≤ q) × (q < all)) → place ≡ unwrap_or o all
+    → place < all → Some place ≡ o
 turn_told None least all place within is below = absurd (omega (arith, is, below))
 turn_told (Some q) least all place within is below = ap Some is
 
-pub turn_none : (o : Option ℕ) (least all place : ℕ) → IfSome o (λ q. (least ≤ q) × (q < all)) → place ≡ unwrap_or o all → all ≤ place → None ≡ o
+pub turn_none : (o : Option ℕ) (least all place : ℕ) → IfSome o (λ q. (least ≤ q) × (q < all)) → place ≡ unwrap_or o all
+    → all ≤ place → None ≡ o
 turn_none None least all place within is past = refl
 turn_none (Some q) least all place within is past = absurd (omega (arith, within.1, is, past))
 
-pub turn_behind : (o : Option ℕ) (least all place : ℕ) → IfSome o (λ q. (least ≤ q) × (q < all)) → place ≡ unwrap_or o all → place < all → least ≤ place
+pub turn_behind : (o : Option ℕ) (least all place : ℕ) → IfSome o (λ q. (least ≤ q) × (q < all)) → place ≡ unwrap_or o all
+    → place < all → least ≤ place
 turn_behind None least all place within is below = absurd (omega (arith, is, below))
 turn_behind (Some q) least all place within is below = omega (arith, within.0, is)
 
@@ -107,7 +113,8 @@ links_end links es whole =
     record { whole = whole; lead = λ place e from at. absurd (omega (arith, from, slice_get_within es place e at)) }
 
 -- with the entry at this place, those of its process begin there,
-first_before : (turns : List ℕ) (place : ℕ) (es : List Entry) (e : Entry) (n : ℕ) (b : Bool) → slice_get es place ≡ Some e → e.pid.0 < length turns
+first_before : (turns : List ℕ) (place : ℕ) (es : List Entry) (e : Entry) (n : ℕ) (b : Bool) → slice_get es place ≡ Some e
+    → e.pid.0 < length turns
     → (e.pid.0 == n) ≡ b → get_or turns n 0 ≡ place_from n (place + 1) es → get_or (set turns e.pid.0 place) n 0 ≡ place_from n place es
 first_before turns place es e n true at below own first =
     ap (λ k. get_or (set turns e.pid.0 place) k 0) (sym (eqb-true e.pid.0 n own)) ∙ get_or-set_same turns e.pid.0 place 0 below
@@ -125,7 +132,8 @@ turns_before turns place es e at below are =
     }
 
 -- and its link leads to the next of them
-lead_before : (links turns : List ℕ) (place : ℕ) (es : List Entry) (e : Entry) (there : ℕ) (f : Entry) (b : Bool) → slice_get es place ≡ Some e
+lead_before : (links turns : List ℕ) (place : ℕ) (es : List Entry) (e : Entry) (there : ℕ) (f : Entry) (b : Bool)
+    → slice_get es place ≡ Some e
     → e.pid.0 < 256 → AreLinks links (place + 1) es → AreTurns turns (place + 1) es → place ≤ there → slice_get es there ≡ Some f
     → (there == place) ≡ b → get_or (set links place (get_or turns e.pid.0 0)) there 0 ≡ place_from f.pid.0 (there + 1) es
 lead_before links turns place es e there f true at below leads are from stands is =
@@ -149,7 +157,8 @@ links_before links turns place es e at below leads are =
     }
 
 -- once it is made, the next of its process is where its link leads
-first_after : (links turns : List ℕ) (place : ℕ) (es : List Entry) (e : Entry) (n : ℕ) (b : Bool) → slice_get es place ≡ Some e → e.pid.0 < length turns
+first_after : (links turns : List ℕ) (place : ℕ) (es : List Entry) (e : Entry) (n : ℕ) (b : Bool) → slice_get es place ≡ Some e
+    → e.pid.0 < length turns
     → AreLinks links 0 es → (e.pid.0 == n) ≡ b → get_or turns n 0 ≡ place_from n place es
     → get_or (set turns e.pid.0 (get_or links place 0)) n 0 ≡ place_from n (place + 1) es
 first_after links turns place es e n true at below leads own first =
@@ -171,7 +180,8 @@ turns_after links turns place es e at below leads are =
 -- ---- a step of each loop
 
 pub before : (links turns : List ℕ) (left place n link : ℕ) (es : List Entry) (pid : Pid) → left ≡ place + 1
-    → Some pid ≡ option_map (λ e. e.pid) (slice_get es place) → pid.0 < 256 → n ≡ pid.0 → link ≡ get_or turns n link → AreLinks links left es → AreTurns turns left es
+    → Some pid ≡ option_map (λ e. e.pid) (slice_get es place) → pid.0 < 256 → n ≡ pid.0 → link ≡ get_or turns n link
+    → AreLinks links left es → AreTurns turns left es
     → AreLinks (set links place link) place es × AreTurns (set turns n place) place es
 before links turns left place n link es pid next told below number is leads are =
     let there = entry_of (slice_get es place) pid told in
@@ -179,13 +189,15 @@ before links turns left place n link es pid next told below number is leads are 
     let few : there.0.pid.0 < 256 = omega (arith, number, own, below) in
     let links_next : AreLinks links (place + 1) es = subst (λ k. AreLinks links k es) next leads in
     let turns_next : AreTurns turns (place + 1) es = subst (λ k. AreTurns turns k es) next are in
-    let link_is : link ≡ get_or turns there.0.pid.0 0 = read_at turns n link (omega (arith, number, below, are.whole)) is ∙ ap (λ k. get_or turns k 0) own in (
+    let link_is : link ≡ get_or turns there.0.pid.0 0 =
+    read_at turns n link (omega (arith, number, below, are.whole)) is ∙ ap (λ k. get_or turns k 0) own in (
       subst (λ k. AreLinks (set links place k) place es) (sym link_is) (links_before links turns place es there.0 there.1 few links_next turns_next),
       subst (λ k. AreTurns (set turns k place) place es) (sym own) (turns_before turns place es there.0 there.1 few turns_next),
     )
 
 pub after : (links turns : List ℕ) (place n link : ℕ) (es : List Entry) (pid : Pid)
-    → Some pid ≡ option_map (λ e. e.pid) (slice_get es place) → pid.0 < 256 → n ≡ pid.0 → link ≡ get_or links place link → AreLinks links 0 es → AreTurns turns place es
+    → Some pid ≡ option_map (λ e. e.pid) (slice_get es place) → pid.0 < 256 → n ≡ pid.0 → link ≡ get_or links place link
+    → AreLinks links 0 es → AreTurns turns place es
     → AreTurns (set turns n link) (place + 1) es
 after links turns place n link es pid told below number is leads are =
     let there = entry_of (slice_get es place) pid told in
@@ -193,4 +205,5 @@ after links turns place n link es pid told below number is leads are =
     let few : there.0.pid.0 < 256 = omega (arith, number, own, below) in
     let within : place < length links = omega (arith, slice_get_within es place there.0 there.1, leads.whole) in
     subst (λ k. AreTurns (set turns k link) (place + 1) es) (sym own)
-    (subst (λ k. AreTurns (set turns there.0.pid.0 k) (place + 1) es) (sym (read_at links place link within is)) (turns_after links turns place es there.0 there.1 few leads are))
+    (subst (λ k. AreTurns (set turns there.0.pid.0 k) (place + 1) es) (sym (read_at links place link within is))
+    (turns_after links turns place es there.0 there.1 few leads are))

@@ -5,6 +5,7 @@
 mod answers;
 mod beginning;
 mod chances;
+mod pair;
 mod random_calls;
 mod soak;
 mod times;

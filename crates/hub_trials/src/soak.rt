@@ -1,18 +1,19 @@
-//! Rounds of random calls in 64 threads, each compared with the replay of its journal.
+//! Rounds of random calls in many threads, each compared with the replay of its journal.
 
-ghost use Rattle.std.specs.Prelude.{◌≡◌, All, OnOk};
+ghost use Rattle.std.specs.Prelude.{◌≡◌, All, IfSome, OnOk};
 ghost use Rattle.hub_base.specs.Head.{AreOf};
 ghost use Rattle.hub_trials.specs.Answers.{answers_to};
 
 use crate::answers::{first_wrong, saw_the_same};
 use crate::beginning::hold_with_ports;
 use crate::chances::{Chances, PORTS};
+use crate::pair::{Pair, Process, pairs_of};
 use crate::random_calls::{RandomTask, Until};
 use crate::trouble::Trouble;
-use hub_base::{Counts, Edition, Event, Journal, Pid, Port};
+use hub_base::{Counts, Edition, Event, Journal, Port};
 use hub_core::{Hub, run};
 use hub_crew::{Member, run_crew};
-use hub_live::{Blank, Held, HubName, LiveHub, Seat};
+use hub_live::{Blank, HubName, LiveHub, Seat};
 use std::alloc::{AllocError, Global};
 use std::marker::Brand;
 use std::sync::Wait;
@@ -37,27 +38,6 @@ pub struct Tally {
     pub seconds: u64,
 }
 
-/// A process, each answer that it received, and what it saw of each port in the end, in order.
-#[derive(Drop)]
-struct Called {
-    pid: Pid,
-    told: Vec<Event>,
-    looks: Vec<Option<Counts>>,
-}
-
-/// What the seat sees of each port, in order.
-fn looks_of<K: HubName>(
-    alloc: Global,
-    hub: &LiveHub<K>,
-    seat: &mut Held<K>,
-) -> Result<Vec<Option<Counts>>, AllocError> {
-    let mut looks = Vec::new(alloc);
-    for port in 0..PORTS {
-        looks.push(seat.look(hub, Port(port + 1)))?;
-    }
-    Ok(looks)
-}
-
 /// What the hub shows of each port, in order.
 fn shown_by(alloc: Global, hub: &Hub) -> Result<Vec<Option<Counts>>, AllocError> {
     let mut shown = Vec::new(alloc);
@@ -67,88 +47,106 @@ fn shown_by(alloc: Global, hub: &Hub) -> Result<Vec<Option<Counts>>, AllocError>
     Ok(shown)
 }
 
-/// The answers of a process, whose thread has ended, and what its seat sees.
-fn called_of<K: HubName>(
+/// The pairs, whose threads have ended, once each process has looked at all ports.
+fn ended<K: HubName>(
     alloc: Global,
     hub: &LiveHub<K>,
-    seat: &mut Held<K>,
-    report: Result<Vec<Event>, Trouble>,
-) -> Result<Called, Trouble> {
-    let told = report?;
-    let pid = seat.pid();
-    let looks = looks_of(alloc, hub, seat)?;
-    Ok(Called { pid, told, looks })
-}
-
-/// That of all processes.
-fn all_called<K: HubName>(
-    alloc: Global,
-    hub: &LiveHub<K>,
-    done: Vec<Member<Held<K>, Result<Vec<Event>, Trouble>>>,
-) -> Result<Vec<Called>, Trouble> {
-    let mut all = Vec::new(alloc);
+    done: Vec<Member<Pair<K>, Result<(), Trouble>>>,
+) -> Result<Vec<Pair<K>>, Trouble> {
+    let mut pairs = Vec::new(alloc);
     for member in done {
         let Member { mut seat, report } = member;
-        let called = called_of(alloc, hub, &mut seat, report)?;
-        let Ok(()) = all.push(called) else {
-            return Err(Trouble::NoMemory);
-        };
+        report?;
+        seat.look_at_all(hub)?;
+        pairs.push(seat).map_err(AllocError::from)?;
     }
-    Ok(all)
+    Ok(pairs)
 }
 
-/// Whether each process was answered as these events say.
-fn compare(alloc: Global, all: &[Called], events: &[Event]) -> Result<(), Trouble>
-    ensures { OnOk result (All (λ c. c.told.items ≡ answers_to c.pid events.now) all.now) }
+/// Whether the process was answered as these events say, and saw in the end what is shown.
+fn compare_process<K: HubName>(
+    alloc: Global,
+    process: &Process<K>,
+    events: &[Event],
+    shown: &[Option<Counts>],
+) -> Result<(), Trouble>
+    ensures told { OnOk result (process.now.told.items ≡ answers_to process.now.seat.pid events.now) }
+    ensures looks { OnOk result (process.now.looks.items ≡ shown.now) }
 {
-    for called in all {
-        let pid = called.pid;
-        if let Some(place) = first_wrong(alloc, pid, called.told.as_slice(), events)? {
-            return Err(Trouble::Differs { pid: pid.0, place });
-        }
+    let pid = process.seat.pid();
+    if let Some(place) = first_wrong(alloc, pid, process.told.as_slice(), events)? {
+        return Err(Trouble::Differs { pid: pid.0, place });
+    }
+    if !saw_the_same(process.looks.as_slice(), shown) {
+        return Err(Trouble::LooksDiffer { pid: pid.0 });
     }
     Ok(())
 }
 
-/// Whether each process saw in the end what the replay shows.
-fn compare_looks(all: &[Called], shown: &[Option<Counts>]) -> Result<(), Trouble>
-    ensures { OnOk result (All (λ c. c.looks.items ≡ shown.now) all.now) }
+/// The same of both processes of a pair.
+fn compare_pair<K: HubName>(
+    alloc: Global,
+    pair: &Pair<K>,
+    events: &[Event],
+    shown: &[Option<Counts>],
+) -> Result<(), Trouble>
+    ensures told { OnOk result (pair.now.active.told.items ≡ answers_to pair.now.active.seat.pid events.now) }
+    ensures looks { OnOk result (pair.now.active.looks.items ≡ shown.now) }
+    ensures other_told { OnOk result (IfSome pair.now.other (λ o.
+        o.told.items ≡ answers_to o.seat.pid events.now)) }
+    ensures other_looks { OnOk result (IfSome pair.now.other (λ o. o.looks.items ≡ shown.now)) }
 {
-    for called in all {
-        if !saw_the_same(called.looks.as_slice(), shown) {
-            return Err(Trouble::LooksDiffer { pid: called.pid.0 });
-        }
+    compare_process(alloc, &pair.active, events, shown)?;
+    match &pair.other {
+        Some(other) => compare_process(alloc, other, events, shown),
+        None => Ok(()),
     }
-    Ok(())
 }
 
-fn answers_of(all: &[Called]) -> u64 {
-    let mut answers = 0u64;
-    for called in all {
-        answers = answers.wrapping_add(called.told.len() as u64);
+/// The same of each process.
+fn compare<K: HubName>(
+    alloc: Global,
+    pairs: &[Pair<K>],
+    events: &[Event],
+    shown: &[Option<Counts>],
+) -> Result<(), Trouble>
+    ensures told { OnOk result (All (λ p.
+        (p.active.told.items ≡ answers_to p.active.seat.pid events.now)
+        × IfSome p.other (λ o. o.told.items ≡ answers_to o.seat.pid events.now)) pairs.now) }
+    ensures looks { OnOk result (All (λ p.
+        (p.active.looks.items ≡ shown.now) × IfSome p.other (λ o. o.looks.items ≡ shown.now)) pairs.now) }
+{
+    for pair in pairs {
+        compare_pair(alloc, pair, events, shown)?;
     }
-    answers
+    Ok(())
 }
 
 /// Whether each process was answered as the replay of the journal answers it, and saw in the end what that shows.
-fn compare_replay(alloc: Global, all: &[Called], journal: &Journal) -> Result<(), Trouble>
+fn compare_replay<K: HubName>(
+    alloc: Global,
+    pairs: &[Pair<K>],
+    journal: &Journal,
+) -> Result<(), Trouble>
     requires { AreOf journal.now.head.edition journal.now.entries }
 {
     let (procs, edition) = (journal.procs(), journal.edition());
     let Ok((replayed, events)) = run(alloc, procs, LIMIT, edition, journal.entries()) else {
         return Err(Trouble::NoReplay);
     };
-    compare(alloc, all, events.as_slice())?;
-    compare_shown(alloc, all, &replayed)
+    let shown = shown_by(alloc, &replayed)?;
+    compare(alloc, pairs, events.as_slice(), shown.as_slice())
 }
 
-/// Whether each process saw in the end what the hub shows.
-fn compare_shown(alloc: Global, all: &[Called], hub: &Hub) -> Result<(), Trouble> {
-    let shown = shown_by(alloc, hub)?;
-    compare_looks(all, shown.as_slice())
+fn answers_of<K: HubName>(pairs: &[Pair<K>]) -> u64 {
+    let mut answers = 0u64;
+    for pair in pairs {
+        answers = answers.wrapping_add(pair.answers() as u64);
+    }
+    answers
 }
 
-/// Makes the ports, and then the random calls of each process in a thread of its own.
+/// Makes the ports, and then the random calls of each pair in a thread of its own.
 fn in_threads<K: HubName + Send + Sync, R: Threads + Wait + Clock + Sync>(
     rt: &R,
     alloc: Global,
@@ -156,18 +154,16 @@ fn in_threads<K: HubName + Send + Sync, R: Threads + Wait + Clock + Sync>(
     seats: Vec<Seat>,
     seed: u64,
     until: Until,
-) -> Result<Vec<Called>, Trouble>
+) -> Result<Vec<Pair<K>>, Trouble>
     requires { All (λ s. s.hub ≡ K.name) seats.items }
 {
     let (seats, made) = hold_with_ports(rt, alloc, hub, seats, &CAPACITIES)?;
-    let task = RandomTask {
-        alloc,
-        seed,
-        until,
-        made: made.as_slice(),
-    };
-    match run_crew(rt, alloc, hub, seats, task) {
-        Ok(done) => all_called(alloc, hub, done),
+    let mut pairs = pairs_of(alloc, hub, seats)?;
+    if let Some(pair) = pairs.first_mut() {
+        pair.active.told = made;
+    }
+    match run_crew(rt, alloc, hub, pairs, RandomTask { seed, until }) {
+        Ok(done) => ended(alloc, hub, done),
         Err(_) => Err(Trouble::NotStarted),
     }
 }
@@ -185,23 +181,29 @@ fn in_round<K: HubName + Send + Sync, R: Threads + Wait + Clock + Sync>(
     requires seats { All (λ s. s.hub ≡ K.name) seats.items }
 {
     let hub = blank.named::<K>();
-    let all = in_threads(rt, alloc, &hub, seats, seed, until)?;
+    let pairs = in_threads(rt, alloc, &hub, seats, seed, until)?;
     let journal = hub.finish(Vec::new(alloc));
-    compare_replay(alloc, all.as_slice(), &journal)?;
-    Ok(answers_of(all.as_slice()))
+    compare_replay(alloc, pairs.as_slice(), &journal)?;
+    Ok(answers_of(pairs.as_slice()))
 }
 
 fn round<R: Threads + Wait + Clock + Sync>(
     rt: &R,
     alloc: Global,
+    edition: Edition,
     seed: u64,
-    until: Until,
+    limit: Duration,
 ) -> Result<u64, Trouble> {
-    let (blank, seats) = Blank::open(alloc, PROCS, LIMIT, Edition::One)?;
+    let until = Until {
+        began: Instant::now(rt)?,
+        limit,
+    };
+    let (blank, seats) = Blank::open(alloc, PROCS, LIMIT, edition)?;
     in_round::<Brand, R>(rt, alloc, blank, seats, seed, until)
 }
 
-/// Round after round until so many seconds have gone, one round at least.
+/// Rounds of the first and of the third edition in turn until so many seconds have gone: one of each at least, none of
+/// which takes more than half the time.
 pub fn soak<R: Threads + Wait + Clock + Sync>(
     rt: &R,
     alloc: Global,
@@ -209,10 +211,7 @@ pub fn soak<R: Threads + Wait + Clock + Sync>(
     seed: u64,
 ) -> Result<Tally, Trouble> {
     let began = Instant::now(rt)?;
-    let until = Until {
-        began,
-        limit: Duration::from_secs(seconds),
-    };
+    let half = Duration::from_millis(seconds.saturating_mul(500));
     let mut seeds = Chances::of(seed);
     let mut tally = Tally {
         rounds: 0,
@@ -220,13 +219,15 @@ pub fn soak<R: Threads + Wait + Clock + Sync>(
         seconds: 0,
     };
     for _ in rt.forever() {
-        let answers = round(rt, alloc, seeds.word(), until)?;
-        tally.rounds = tally.rounds.wrapping_add(1);
-        tally.answers = tally.answers.wrapping_add(answers);
-        if until.is_over(rt)? {
+        for edition in [Edition::One, Edition::Three] {
+            let answers = round(rt, alloc, edition, seeds.word(), half)?;
+            tally.rounds = tally.rounds.wrapping_add(1);
+            tally.answers = tally.answers.wrapping_add(answers);
+        }
+        tally.seconds = began.elapsed(rt)?.as_secs();
+        if tally.seconds >= seconds {
             break;
         }
     }
-    tally.seconds = began.elapsed(rt)?.as_secs();
     Ok(tally)
 }

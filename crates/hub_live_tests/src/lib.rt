@@ -11,6 +11,4 @@ mod gates;
 #[cfg(test)]
 mod live;
 #[cfg(test)]
-mod renewals;
-#[cfg(test)]
 mod uses;

@@ -1,9 +1,0 @@
-use Rattle.std.proofs.Common.{◌<◌, length, refl, arith}
-use Rattle.hub_renew.proofs.Orders.{shown_next}
-use Rattle.hub_renew.proofs.seats.show_all.Goals as goal
-
-pub loop-other-preserved : goal.loop-other-preserved
-loop-other-preserved g c =
-    let low : c.loop-other.other-index < length c.loop-other.other-items = omega arith in
-    shown_next c.loop-other.other-index c.other-item.result c.loop-other.invariant low refl c.meet.ensures.later c.meet.ensures.same
-    c.meet.ensures.other c.meet.ensures.other_same c.meet.ensures.together

@@ -1,3 +1,0 @@
-pub mod InOrder
-pub mod Renewed
-pub mod Making

@@ -22,7 +22,7 @@ use hub_live::under_lock::Locked;
 use hub_text::{write_entry, write_head};
 
 /// The most pieces that are read at once, behind the first.
-const MOST_MORE: u32 = 1024;
+const MOST_MORE: u32 = 1_000;
 
 /// A text of a hub.
 #[derive(Clone, Copy)]

@@ -101,11 +101,11 @@ impl RandomCalls {
         let seat = &mut active.seat;
         let answer = match (self.chances.below(4_096), other) {
             (0, _) => seat.close(rt, hub, &self.sender()),
-            (1..=8, _) if lives => {
+            (1..=32, _) if lives => {
                 let cap = self.chances.below(4) as u32;
                 seat.reopen(rt, hub, &self.sender(), cap)
             }
-            (9..=40, Some(other)) if lives => return change_over(rt, hub, active, other),
+            (33..=64, Some(other)) if lives => return change_over(rt, hub, active, other),
             _ => {
                 let (cases, default, word) = self.next_call(seat.pid());
                 seat.call(rt, hub, cases, default, word)

@@ -1,7 +1,10 @@
-use Rattle.std.proofs.Common.{◌≡◌, All, take}
+use Rattle.std.proofs.Common.{◌≡◌, All, IfSome, take}
 use Rattle.hub_trials.specs.Answers.{answers_to}
 use Rattle.hub_trials.proofs.soak.compare.Given as goal
 
-abbrev pub invariant-loop-called : goal.invariant-loop-called
-invariant-loop-called l =
-    All (λ c. c.told.items ≡ answers_to c.pid l.events) (take l.called-index l.all)
+abbrev pub invariant-loop-pair : goal.invariant-loop-pair
+invariant-loop-pair g l = record {
+  told : All (λ p. (p.active.told.items ≡ answers_to p.active.seat.pid l.events)
+      × IfSome p.other (λ o. o.told.items ≡ answers_to o.seat.pid l.events)) (take l.pair-index l.pairs);
+  looks : All (λ p. (p.active.looks.items ≡ l.shown) × IfSome p.other (λ o. o.looks.items ≡ l.shown)) (take l.pair-index l.pairs);
+}

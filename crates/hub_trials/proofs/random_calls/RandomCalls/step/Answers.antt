@@ -1,4 +1,4 @@
 use Rattle.hub_trials.proofs.random_calls.RandomCalls.step.Goals as goal
 
-pub call-requires : goal.call-requires
-call-requires g c = c.next_call-cases.ensures g.K.HubName.name.terms.head.edition
+pub call-answer-requires : goal.call-answer-requires
+call-answer-requires g c = c.next_call-cases.ensures g.K.HubName.name.terms.head.edition

@@ -848,10 +848,10 @@ class Hub:
     is `procs`. The journal shows its steps: `cancel`, where a call has timed out. A call that waits with a timeout makes at most 5 steps.
     They count towards the limit, and a step is kept for each call that waits with a timeout, so that a full journal delays none.
 
-    With `keep` (1 to 900,000), the hub does not end by itself, and its journal is cut into chapters. The present chapter is full once
-    `keep` steps were added to it, and twice those that it began with, not counting exits; or sooner if its text would get too long to be read. The next step then begins a
-    new chapter, unless it is an exit. A chapter begins with some steps that make the ports, the buffered values, the exits and the
-    waiting calls again, so it is a journal of its own. Every answer is the one that the whole history gives. The hub keeps the present
+    With `keep` (1 to 900,000), the hub does not end by itself, and its journal is cut into chapters. A chapter begins with some steps
+    that make the ports, the buffered values, the exits and the waiting calls again, so it is a journal of its own. It is full once `keep`
+    steps were added, and twice as many as it began with, not counting exits; sooner if its text would get too long to be read. The next
+    step then begins a new chapter, unless it is an exit. Every answer is the one that the whole history gives. The hub keeps the present
     chapter and the one before, so the last `keep` steps are always there, or as many as two texts hold.
 
     When a chapter begins, the chapter before falls out of the hub. If `chapters` is None, it goes. Otherwise `chapters` gets it. Once
@@ -873,8 +873,9 @@ class Hub:
     it. If it has not ended when the interpreter does, `chapters` does not get the chapters that it keeps.
 
     Memory: a send or a receive takes 16 bytes, and a select or a send of bytes more. Without `keep`, all of them stay until the hub is
-    freed. With `keep`, two chapters stay, and up to four while `chapters` gets one. A chapter begins with at most 65,792 steps, and then has
-    at most `keep`, or twice those that it began with, if these are more. If the function is slow, up to one text for each process waits for it.
+    freed. With `keep`, two chapters stay, and up to four while `chapters` gets one. A chapter begins with at most 65,792 steps, and then
+    has at most `keep`, or twice as many as it began with, if these are more. If the function is slow, up to one text for each process
+    waits for it.
 
     Raises ValueError if an argument is out of range, if `keep` and `limit` are both given, or if `chapters` is given without `keep`.
     Raises TypeError if `chapters` is neither a path nor a function, and MemoryError if memory runs out.

@@ -418,7 +418,7 @@ static void chapters() {
         is("without an end", hub.steps_left() == std::numeric_limits<std::uint64_t>::max());
         is("none before", !hub.before());
         const Port port = seat.make(1);
-        for (int i = 0; i < 3; i++) {
+        for (int i = 0; i < 5; i++) {
             seat.send(port, i);
             is("got", seat.recv(port) == Value(i));
         }
@@ -426,7 +426,7 @@ static void chapters() {
         is("before", hub.before().has_value());
         is("cut", hub.cut() && texts.size() == 3);
         Hub moved(std::move(hub));
-        is("counts go on", moved.look(port).sent == 3 && moved.journal().rfind("chanhub journal 2\n", 0) == 0);
+        is("counts go on", moved.look(port).sent == 5 && moved.journal().rfind("chanhub journal 2\n", 0) == 0);
         moved = std::move(other);
         is("freed", texts.size() == 5);
         is("the other one", moved.seat(0).make_told(0).outcome == Outcome::Made && moved.steps_left() == Hub::most_steps - 1);
@@ -469,7 +469,7 @@ static void chapters_of_threads() {
 static void chapters_that_throw() {
     std::set_terminate([] { _exit(0); });
     Hub hub = Hub::endless(1, 1, [](std::string_view) { throw std::runtime_error("no room"); });
-    for (int i = 0; i < 3; i++) static_cast<void>(hub.seat(0).make_told(0));
+    for (int i = 0; i < 4; i++) static_cast<void>(hub.seat(0).make_told(0));
 }
 
 // Calls that wait for a limited time, on a hub of these options.

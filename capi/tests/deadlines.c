@@ -286,14 +286,14 @@ static void across_cuts(void) {
     chanhub_free(hub);
 }
 
-/* A clock in a hub that cuts at each step and hands out each chapter: a step of the library waits for no room that only its own
+/* A clock in a hub that cuts as often as it can and hands out each chapter: a step of the library waits for no room that only its own
  * thread could make. */
 static void open_cutting(void) {
     chanhub_options options = { .procs = 2, .keep = 1, .chapters = ignore, .clock = true };
     is("opened", chanhub_open_with(&hub, &options), 0);
 }
 
-static void at_each_step(void) {
+static void in_short_chapters(void) {
     open_cutting();
     is("made", chanhub_make(hub, 0, 1).port, 1);
     for (uint64_t i = 0; i < 20; i++) {
@@ -324,7 +324,7 @@ static void alone(void) {
     at_the_limit();
     others_leave_a_step();
     across_cuts();
-    at_each_step();
+    in_short_chapters();
     resumed_for_longer();
 }
 
@@ -419,8 +419,8 @@ static void stalls_follow(void) {
     chanhub_free(hub);
 }
 
-/* Values come while the receiver waits with a deadline, in a hub that cuts at each step. */
-static void they_come_at_each_step(void) {
+/* Values come while the receiver waits with a deadline, in a hub that cuts as often as it can. */
+static void they_come_in_short_chapters(void) {
     struct caller c;
     open_cutting();
     is("made", chanhub_make(hub, 0, 0).port, 1);
@@ -439,7 +439,7 @@ static void threads(void) {
     none_is_late();
     made_to_pass();
     stalls_follow();
-    they_come_at_each_step();
+    they_come_in_short_chapters();
 }
 
 /* ---- Under load. ---- */

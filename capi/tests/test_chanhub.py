@@ -554,15 +554,16 @@ class Chapters(unittest.TestCase):
         self.assertEqual(got, [7])
         self.assertEqual(history(chapters)[1], ['0 make 0', '1 recv 1', '0 send 1 7', '0 exit', '1 exit'])
 
-    def test_many_values_make_many_chapters(self):
+    def test_many_values_make_several_chapters(self):
         chapters = []
-        with Hub(procs=1, keep=3, chapters=chapters.append) as hub:
+        with Hub(procs=1, keep=5, chapters=chapters.append) as hub:
             seat = hub.seat(0)
             port = seat.make(50)
             seat.send_all(port, range(40))
             self.assertEqual(seat.recv_up_to(port, 50), list(range(40)))
         lines = ['0 make 50', *(f'0 send 1 {number}' for number in range(40)), *['0 recv 1'] * 40, '0 exit']
         self.assertEqual(history(chapters)[1], lines)
+        self.assertEqual(len(chapters), 4)
 
     def test_more_steps_than_another_hub_makes(self):
         chapters = collections.Counter()
@@ -632,9 +633,9 @@ class Chapters(unittest.TestCase):
         def look(text):
             looks.append((hub.look(1), hub.before(), text, hub.journal()))
         with Hub(procs=1, keep=2, chapters=look) as hub:
-            pass_numbers(hub, 3)
+            pass_numbers(hub, 5)
             hub.cut()
-            self.assertEqual([counts.sent for counts, *_ in looks], [2, 3, 3])
+            self.assertEqual([counts.sent for counts, *_ in looks], [3, 5, 5])
             for _, *texts in looks:
                 before, text, journal = texts
                 history([text, before, journal])
@@ -671,7 +672,7 @@ class Chapters(unittest.TestCase):
             chapters = []
             with Hub(procs=2, keep=1, chapters=chapters.append) as hub:
                 seat = hub.seat(0)
-                seat.make(0), seat.make(0)
+                seat.make(0), seat.make(0), seat.make(0)
 
                 def other():
                     end = time.monotonic() + LONG
@@ -705,7 +706,8 @@ class Chapters(unittest.TestCase):
         self.assertEqual(history(chapters)[1], [*lines_of(3), '0 exit', '1 exit', '2 exit'])
 
     def test_the_function_can_be_interrupted(self):
-        """The call has its result nevertheless, and the function gets the chapter again."""
+        """The call has its result nevertheless, and the function gets the chapter again. Each call begins a chapter: the one before it is
+        filled by selects."""
         chapters, interrupts = [], []
 
         def interrupted(text):
@@ -713,11 +715,16 @@ class Chapters(unittest.TestCase):
                 interrupts.append(text)
                 raise KeyboardInterrupt
             chapters.append(text)
-        with Hub(procs=2, keep=1, chapters=interrupted) as hub:
+
+        def select(count):
+            for _ in range(count):
+                seat.select([], default=True)
+        with Hub(procs=2, keep=8, chapters=interrupted) as hub:
             seat, results = hub.seat(0), []
-            seat.make(0), seat.make(3)
+            seat.make(0), seat.make(3), select(7)
             for call in (lambda: seat.send(2, 7), lambda: seat.select([Recv(1), Recv(2)]), lambda: seat.close(2), lambda: seat.recv(2),
                          lambda: seat.cancel(1), lambda: seat.make(9), lambda: seat.recv(9)):
+                select(7)
                 with self.assertRaises(KeyboardInterrupt):
                     call()
                 self.assertTrue(seat.waits)
@@ -728,8 +735,9 @@ class Chapters(unittest.TestCase):
                 self.assertFalse(seat.waits)
             self.assertEqual(chapters, interrupts[:-1])
         self.assertEqual(results, [None, Fired(1, 7), None, str(Drained()), str(Fault(12)), 3, str(Fault(5))])
-        self.assertEqual(history(chapters)[1], ['0 make 0', '0 make 3', '0 send 2 7', '0 select 0 r1 r2', '0 close 2', '0 recv 2',
-                                                '0 cancel 1', '0 make 9', '0 recv 9', '0 exit', '1 exit'])
+        lines = [line for line in history(chapters)[1] if line != '0 select 0 default']
+        self.assertEqual(lines, ['0 make 0', '0 make 3', '0 send 2 7', '0 select 0 r1 r2', '0 close 2', '0 recv 2', '0 cancel 1',
+                                 '0 make 9', '0 recv 9', '0 exit', '1 exit'])
 
     def test_other_calls_go_on_while_the_function_runs(self):
         chapters, calls = [], []
@@ -797,7 +805,7 @@ class Chapters(unittest.TestCase):
             time.sleep(0.1)
             first.append(pipe.read_bytes())
         with Hub(procs=2, keep=2, chapters=name) as hub:
-            for _ in range(4):
+            for _ in range(6):
                 hub.seat(0).make(0)
             threads = [threading.Thread(target=hub.seat(1).make, args=(1,)), threading.Thread(target=read)]
             threads[0].start()
@@ -807,7 +815,7 @@ class Chapters(unittest.TestCase):
         self.assertTrue(joined(threads))
         os.remove(self.folder / 'slow.0')
         (self.folder / 'slow.0').write_bytes(first[0])
-        self.assertEqual(history(written(name))[1], ['0 make 0'] * 4 + ['1 make 1', '0 exit', '1 exit'])
+        self.assertEqual(history(written(name))[1], ['0 make 0'] * 6 + ['1 make 1', '0 exit', '1 exit'])
 
     def test_a_pool_that_never_ends(self):
         last, name = self.folder / 'last', self.folder / 'chapters' / 'chapter'
@@ -836,10 +844,10 @@ hub = Hub(procs=1, keep=1, chapters=name)
 with hub:
     seat = hub.seat(0)
     for _ in range(5):
-        seat.make(0)
+        seat.select([], default=True)
     print(repr(hub.chapters_error), hub.chapters_error.filename, flush=True)
     os.mkdir(os.path.dirname(name))
-    seat.make(0)
+    seat.select([], default=True)
 print(repr(hub.chapters_error), flush=True)
 os.rename(os.path.dirname(name), os.path.dirname(name) + '-')
 del hub, seat
@@ -1357,7 +1365,7 @@ class Interrupts(unittest.TestCase):
             may_return.wait(LONG)
         chapters = []
         with Hub(procs=2, keep=2, chapters=wait) as hub:
-            other = threading.Thread(target=pass_numbers, args=(hub, 2))
+            other = threading.Thread(target=pass_numbers, args=(hub, 3))
             other.start()
             self.assertTrue(runs.wait(LONG))
             seat = hub.seat(1)
@@ -1366,13 +1374,13 @@ class Interrupts(unittest.TestCase):
                 while True:
                     ports.append(seat.make(0))
             ports = []
-            # Its second port begins a chapter more.
-            self.interrupted(call, lambda: hub.look(3))
+            # Its fourth port begins a chapter more.
+            self.interrupted(call, lambda: hub.look(5))
             self.assertTrue(self.is_soon(seat))
             may_return.set()
             ports.append(seat.resume())
             self.assertTrue(joined([other]))
-        self.assertEqual(ports, [2, 3, 4][:len(ports)])
+        self.assertEqual(ports, [2, 3, 4, 5, 6][:len(ports)])
         history(chapters)
 
     def test_a_signal_handler_cuts_the_hub(self):

@@ -98,6 +98,16 @@ func makeSteps(t *testing.T, seat *chanhub.Seat, steps int) chanhub.Port {
 	return port
 }
 
+// trySelects makes so many steps that leave nothing to make again.
+func trySelects(t *testing.T, seat *chanhub.Seat, steps int) {
+	t.Helper()
+	for i := 0; i < steps; i++ {
+		if _, _, err := seat.TrySelect(0); err != nil {
+			t.Fatal(err)
+		}
+	}
+}
+
 // A reader reads the chapters of a hub on which such steps are made, each chapter with keep of them, and the last one with an exit.
 type reader struct {
 	t              *testing.T
@@ -194,9 +204,7 @@ func TestACallThatWaitsGivesItsChapterFirst(t *testing.T) {
 	chapters := make(chan string)
 	hub := openEndless(t, 2, 1, chanhub.Chapters{Func: func(text []byte) { chapters <- string(text) }})
 	port := makePort(t, hub.Seat(0), 1)
-	if _, _, err := hub.Seat(0).TrySelect(0); err != nil {
-		t.Fatal(err)
-	}
+	trySelects(t, hub.Seat(0), 2)
 	received := make(chan error)
 	go func() {
 		_, err := hub.Seat(1).Recv(port)
@@ -222,7 +230,7 @@ func TestAHubWithoutAFunctionKeepsTwoChapters(t *testing.T) {
 	is(t, "before", text, err, "")
 	makeSteps(t, hub.Seat(0), 7)
 	head := "chanhub journal 2\nprocs 1\n0 make 1\n"
-	before, present := head+"0 send 1 1\n0 recv 1\n0 send 1 2\n", head+"0 send 1 2\n0 recv 1\n"
+	before, present := head+"0 send 1 0\n0 recv 1\n0 send 1 1\n0 recv 1\n0 send 1 2\n", head+"0 send 1 2\n0 recv 1\n"
 	text, err = hub.Before()
 	is(t, "before", text, err, before)
 	text, err = hub.Journal()
@@ -316,6 +324,7 @@ func TestTheFunctionMayLookAtItsHub(t *testing.T) {
 	for i := 0; i < 2; i++ {
 		told(t, "send", hub.Seat(0).Send(port, chanhub.Number(7)), nil)
 	}
+	trySelects(t, hub.Seat(0), 6)
 	waits := make(chan error)
 	go func() {
 		_, err := hub.Seat(1).Recv(0)
@@ -333,9 +342,9 @@ func TestTheFunctionMayLookAtItsHub(t *testing.T) {
 			t.Errorf("seen %q", seen)
 		}
 	}
-	// The make, the sends and the receive have a chapter each.
-	if wanted := 1 + 2 + 1; len(seen) != wanted {
-		t.Errorf("%d chapters, and not %d", len(seen), wanted)
+	// The make, the sends, the selects and the receive have a chapter each.
+	if len(seen) != 4 {
+		t.Errorf("%d chapters", len(seen))
 	}
 }
 

@@ -7,8 +7,7 @@ import (
 	"chanhub/chanhub"
 )
 
-// Each chapter has two new steps. After the first one, a chapter begins with a checkpoint: the port is made again, with the value
-// in its buffer.
+// The first chapter ends after two steps. The next one begins with a checkpoint: the port is made again, with the value in its buffer.
 func ExampleOpenEndless() {
 	check := func(err error) {
 		if err != nil {

@@ -383,7 +383,8 @@ impl Hub {
     /// Its journal is cut into *chapters*. A new chapter begins with a *checkpoint*: steps that make the ports, the values in their
     /// buffers, the exits and the waiting calls again. Once `keep` steps (1 to 900,000) came behind it, and twice as many as it has, or
     /// the text would grow too long for `chanhub replay`, the next step begins a new chapter. So each chapter is a journal of its own,
-    /// which all tools read. Nothing else shows that the journal was cut: every call returns what it would if the hub had kept its whole journal.
+    /// which all tools read. Nothing else shows that the journal was cut: every call returns what it would if the hub had kept its
+    /// whole journal.
     ///
     /// The hub keeps the present chapter, which [`journal`](Hub::journal) returns, and the one [`before`](Hub::before) it. So the last
     /// `keep` steps are always there, or as many as two texts hold. When a chapter begins, the chapter before falls out of the hub:

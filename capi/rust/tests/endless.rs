@@ -185,7 +185,7 @@ fn a_hub_without_a_closure_keeps_two_chapters() {
     assert_eq!(hub.before(), None);
     make_steps(&mut seat, 7);
     let head = "chanhub journal 2\nprocs 1\n0 make 1\n";
-    let before = format!("{head}0 send 1 1\n0 recv 1\n0 send 1 2\n");
+    let before = format!("{head}0 send 1 0\n0 recv 1\n0 send 1 1\n0 recv 1\n0 send 1 2\n");
     assert_eq!(hub.before(), Some(before));
     let present = format!("{head}0 send 1 2\n0 recv 1\n");
     assert_eq!(hub.journal(), Some(present.clone()));
@@ -247,7 +247,8 @@ fn calls_wait_across_cuts() {
     while !hub.journal().unwrap().contains("\n1 select 0 r2 r1\n") {
         thread::sleep(Duration::from_millis(1));
     }
-    for _ in 0..100 {
+    // A chapter begins with both channels and both calls at most, so it has at most 8 further steps.
+    for _ in 0..400 {
         seat.select(&[], true, 0).unwrap();
     }
     while seat.cancel(2).is_err() {
@@ -271,7 +272,9 @@ fn a_call_that_waits_gives_its_chapter_first() {
     let mut waits = seats.pop().unwrap();
     let mut seat = seats.pop().unwrap();
     let (sender, receiver) = seat.channel(1).unwrap();
-    seat.select(&[], true, 0).unwrap();
+    for _ in 0..2 {
+        seat.select(&[], true, 0).unwrap();
+    }
     let waiting = thread::spawn(move || receiver.recv(&mut waits));
     assert_eq!(
         chapters.recv().unwrap(),
@@ -295,13 +298,13 @@ fn the_closure_may_look_at_its_hub() {
         }
     });
     let (hub, mut seat) = one_seat(2, look);
-    let (sender, receiver) = seat.channel(8).unwrap();
+    let (sender, receiver) = seat.channel(18).unwrap();
     *seen.lock().unwrap() = Some((hub, receiver));
-    for number in 1..=6u64 {
+    for number in 1..=18u64 {
         sender.send(&mut seat, number).unwrap();
     }
     drop(seen.lock().unwrap().take());
-    assert_eq!(*looks.lock().unwrap(), [(4, true), (6, true)]);
+    assert_eq!(*looks.lock().unwrap(), [(6, true), (18, true)]);
 }
 
 #[test]

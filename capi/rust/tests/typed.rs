@@ -402,7 +402,7 @@ fn a_sender_that_no_process_is_free_to_close_is_closed_once_a_call_returns() {
     until_it_stands(&hub, "1 recv 1");
     // A step of process 0 makes a chapter fall out, and its call does not return before the closure does.
     let calling = thread::spawn(move || {
-        for _ in 0..3 {
+        for _ in 0..5 {
             calls.select(&[], true, 0).unwrap();
         }
         calls

@@ -30,9 +30,9 @@ import time
 
 HERE = os.path.dirname(os.path.abspath(__file__))
 ROOT = os.path.dirname(HERE)
-sys.path.append(os.path.join(ROOT, 'tools'))
+sys.path.append(os.path.join(ROOT, 'tools', 'gate'))
 sys.dont_write_bytecode = True
-from check_instructions import LINES, has_valgrind, instructions, make_beginnings, make_growth
+from instructions import LINES, has_valgrind, instructions, make_beginnings, make_growth
 
 CHANHUB = os.path.join(ROOT, 'crates', 'chanhub', 'out', 'chanhub')
 TRIALS = os.path.join(ROOT, 'crates', 'hub_trials', 'out', 'hub_trials')

@@ -1,6 +1,6 @@
 #!/bin/sh
 # aarch64.sh [FOLDER]: builds the C library for aarch64 Linux into FOLDER (capi/out/aarch64 if not said), and runs tests of it under
-# qemu-user; rigs are judged by the program that tools/build.py builds for this machine. It wants aarch64-linux-gnu-gcc and qemu-aarch64:
+# qemu-user; rigs are judged by the program that tools/build/build.py builds for this machine. It wants aarch64-linux-gnu-gcc and qemu-aarch64:
 # Debian's packages gcc-aarch64-linux-gnu, libc6-dev-arm64-cross and qemu-user. hub_c is proved once more, for that machine, and not what
 # it stands on. `./test` does not run this.
 # The last line counts: 'N passed, M failed'.
@@ -8,13 +8,13 @@ set -u
 case ${1-} in -h | --help) sed -n '2,/^set /s/^# //p' "$0"; exit ;; esac
 root=$(cd "$(dirname "$0")/.." && pwd)
 out=${1:-$root/capi/out/aarch64}
-. "$root/tools/checks.sh"
+. "$root/tools/gate/checks.sh"
 cc=aarch64-linux-gnu-gcc
 program=$root/crates/chanhub/out/chanhub
 
 # made: whether hub_c is proved for that machine and built.
 made() {
-    PYTHONPATH="$root/tools" python3 -B - "$root/crates/hub_c" "$out/libhub_c.a" <<'END'
+    PYTHONPATH="$root/tools/build" python3 -B - "$root/crates/hub_c" "$out/libhub_c.a" <<'END'
 import subprocess
 import sys
 from crates import kit, words_of
@@ -46,7 +46,7 @@ crew() {
     mkdir -p "$work/crew-$1" && runs crew "$work/crew-$1" "$1" 200 && tests/compare.py "$work/crew-$1" "$program"
 }
 
-mkdir -p "$out" && "$root/tools/build.py" hub_c && "$root/tools/build.py" chanhub || exit
+mkdir -p "$out" && "$root/tools/build/build.py" hub_c && "$root/tools/build/build.py" chanhub || exit
 cd "$root/capi" || exit
 check 'hub_c is proved for that machine' made
 check 'the library' put_together

@@ -17,6 +17,7 @@ import sys
 from collections import namedtuple
 
 sys.dont_write_bytecode = True
+sys.path[:0] = [os.path.join(os.path.dirname(os.path.abspath(__file__)), it) for it in ('build', 'gate')]
 from crates import ROOT, folder, is_program, read_lines
 from edit_files import names_by_call
 

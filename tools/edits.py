@@ -39,6 +39,7 @@ import time
 from concurrent.futures import ThreadPoolExecutor
 
 sys.dont_write_bytecode = True
+sys.path[:0] = [os.path.join(os.path.dirname(os.path.abspath(__file__)), it) for it in ('build', 'gate')]
 import edit_verdicts as verdicts
 import edits_tried
 from crates import ROOT, folder, read_crates, words_of

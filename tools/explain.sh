@@ -49,7 +49,7 @@ if ! $is_well; then
 fi
 given=$1
 shift
-tool=${TOOL:-$("$root/tools/ready.py" chanhub_tool)}
+tool=${TOOL:-$("$root/tools/build/ready.py" chanhub_tool)}
 
 # If anything fails, no file stays behind.
 folder=$(mktemp -d)

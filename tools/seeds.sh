@@ -27,7 +27,7 @@ fi
 scenario=$1
 seeds=$2
 folder=${3-}
-program=${CHANHUB:-$("$root/tools/ready.py" chanhub)}
+program=${CHANHUB:-$("$root/tools/build/ready.py" chanhub)}
 [ -z "$folder" ] || mkdir -p "$folder"
 
 work=$(mktemp -d)
@@ -51,7 +51,7 @@ done
 [ -e "$work/runs" ] || exit 0
 
 # What a run of this journal reports, beside it; of a fault line, the line.
-"$root/tools/report.py" "$program" "$work"/journals/*
+"$root/tests/oracle/report.py" "$program" "$work"/journals/*
 while read -r seed status sum; do
     outcome=$({ echo "$status"; cat "$work/journals/$sum.report"; } | cksum | tr ' ' _)
     echo "$seed $status $sum" >> "$work/outcomes/$outcome"

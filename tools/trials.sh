@@ -6,7 +6,7 @@ case ${1-} in -h | --help) sed -n '2,/^set /s/^# //p' "$0"; exit ;; esac
 root=$(cd "$(dirname "$(readlink -f "$0")")/.." && pwd)
 program=$root/crates/hub_trials/out/hub_trials
 
-if ! "$root/tools/build.py" hub_trials; then
+if ! "$root/tools/build/build.py" hub_trials; then
     echo "trials.sh: hub_trials is not built" >&2
     exit 125
 fi

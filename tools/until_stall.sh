@@ -24,7 +24,7 @@ if ! $is_well; then
 fi
 scenario=$1
 most=${2-1000}
-program=${CHANHUB:-$("$root/tools/ready.py" chanhub)}
+program=${CHANHUB:-$("$root/tools/build/ready.py" chanhub)}
 
 folder=$(mktemp -d)
 trap 'rm -rf "$folder"' EXIT

@@ -15,7 +15,8 @@ import sys
 import tempfile
 
 sys.dont_write_bytecode = True
-sys.path.insert(0, os.path.join(os.path.dirname(os.path.abspath(__file__)), '..', '..', 'tools'))
+ROOT = os.path.join(os.path.dirname(os.path.abspath(__file__)), '..', '..')
+sys.path[:0] = [os.path.join(ROOT, it) for it in ('tools/gate', 'tests/drive')]
 from compare import by_process  # noqa: E402
 from counting import Count  # noqa: E402
 from cuts import checkpoint_of  # noqa: E402

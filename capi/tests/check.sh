@@ -8,7 +8,7 @@ program=$(realpath "$1")
 tool=$(realpath -m "${2:-$(dirname "$0")/../../crates/chanhub_tool/out/chanhub_tool}")
 cd "$(dirname "$0")/.." || exit 2
 library=$PWD/out
-. ../tools/checks.sh
+. ../tools/gate/checks.sh
 skipped=0
 # The tests of the Python module look for it there.
 if [ -e "$tool" ]; then export TOOL="$tool"; else unset TOOL; fi

@@ -20,7 +20,7 @@ from chanhub import Cancelled, Closed, Counts, Drained, Fault, Fired, Hub, HubEn
 from rigs import Worker
 
 HERE = pathlib.Path(__file__).resolve().parent
-sys.path.append(str(HERE.parent.parent / 'tools'))
+sys.path += [str(HERE.parent.parent / it) for it in ('tools', 'tests/drive')]
 import model  # noqa: E402
 from compare import by_process  # noqa: E402
 from cuts import checkpoint_of  # noqa: E402

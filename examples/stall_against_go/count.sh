@@ -20,7 +20,7 @@ if ! $is_well; then
     usage | head -n 1 >&2
     exit 2
 fi
-program=${CHANHUB:-$("$here/../../tools/ready.py" chanhub)}
+program=${CHANHUB:-$("$here/../../tools/build/ready.py" chanhub)}
 work=$(mktemp -d)
 trap 'rm -rf "$work"' EXIT
 

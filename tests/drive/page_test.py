@@ -1,0 +1,1870 @@
+#!/usr/bin/env python3
+"""page_test.py [TOOL] [N]: checks pages in a headless Chromium: those that the built chanhub_tool (TOOL) writes, or else those of page.py,
+with which the bytes of TOOL's are compared. What a page has to show is worked out here from the journal and the events that model.py
+tells of it, by picture.py, and not by the page or its data. The shapes of N random journals (50) at three zooms are compared with that:
+each box stands in the column of its step on the axis and in the row of its process's name, and so on for bars, arrows, levels, stalls
+and guesses: all expected shapes, and no others. Those of longer journals are drawn on a canvas, and are taken from the calls to it.
+Of more than 6,000 steps each pixel of the canvas is compared, on screens of 1, 1.5 and 2 pixels a dot; so are those of the strip.
+The sketches in the data, and what the page sums up by them, are counted again, and so are ways of values, longest waits, what
+full ports hold and whom stalled calls perhaps wait for. Search, following, links, mouse and keys are tried; the
+contrasts of all colours are computed on light and on dark; bytes that HTML would take for its own are shown; no error may stand in the
+console; the data of journals of benches/ have at most 60 bytes a step; and a page of a million steps has to open, and be drawn at any
+zoom, in little time of the processor. Status 77 without Chromium. The last line counts.
+
+page_test.py [TOOL] --long [FOLDER] makes the pages of the four journals of benches/, a million steps each, in FOLDER or a temporary
+one, and prints how long they took to open and to move, and their bytes a step. Without TOOL that takes minutes.
+"""
+import collections
+import fcntl
+import itertools
+import json
+import math
+import os
+import pathlib
+import random
+import re
+import subprocess
+import sys
+import tempfile
+import time
+import unicodedata
+import urllib.parse
+
+sys.dont_write_bytecode = True
+ROOT = pathlib.Path(__file__).resolve().parents[2]
+sys.path[:0] = [str(ROOT / it) for it in ("tools", "tools/gate", "tests/oracle")]
+import overview
+import page
+import picture
+import story_model
+from counting import Count
+from random_journal import Journal as RandomJournal
+
+RANDOM = 50
+BLOCK, NEVER = 64, 0xffffffff  # steps; no step
+MOST_BYTES = 60
+VIEWER_LINES, VIEWER_WIDTH = 620, 160
+# a million steps: seconds of the processor until they are open, and for a view of them
+MILLION, MOST_OPENING, MOST_VIEW = 1000000, 1.5, 0.25
+LONG = [(101, 3000), (102, 3000), (103, 2000)]  # seeds of longer journals, and how many steps they have
+FAR = 135, 6500  # and of one whose steps are summed up where all are in view
+WIDTH, HEIGHT = 1440, 860
+COLOURS = "paper text dim rule grey edge trouble on words link h0 h1 h2 h3 h4 h5 h6 h7".split()
+
+# keeps each call to a canvas, with the colours that it has then
+RECORDER = """
+window.drawn = [];
+for (const name of ["fillRect", "fillText"]) {
+    const draw = CanvasRenderingContext2D.prototype[name];
+    CanvasRenderingContext2D.prototype[name] = function (...words) {
+        if (window.drawn) window.drawn.push([this.canvas.id, name, words, this.fillStyle]);
+        return draw.apply(this, words);
+    };
+}
+"""
+# what stands in the page as shapes, each with the numbers of its path
+SHAPES = """[...document.querySelectorAll("#lanes :is(rect, circle, path, text)")].map((shape) => {
+    const of = (name) => Number(shape.getAttribute(name)), look = getComputedStyle(shape);
+    return { tag: shape.tagName, kind: shape.getAttribute("class").split(" "), x: of("x"), y: of("y"), width: of("width"), height: of("height"),
+        cx: of("cx"), cy: of("cy"), way: (shape.getAttribute("d") ?? "").match(/-?[0-9.]+/g)?.map(Number), fill: look.fill, stroke: look.stroke,
+        dash: look.strokeDasharray, told: shape.querySelector("title")?.textContent, text: shape.tagName === "text" ? shape.textContent : "" };
+})"""
+# the pixels of a canvas, column by column: from where to where they have which colour, as red, green, blue and opacity
+PIXELS = """((canvas) => {
+    const { width, height } = canvas, copy = Object.assign(document.createElement("canvas"), { width, height }).getContext("2d", { willReadFrequently: true });
+    copy.drawImage(canvas, 0, 0);
+    const { data } = copy.getImageData(0, 0, width, height), pixels = new Uint32Array(data.buffer);
+    return Array.from({ length: width }, (_, x) => {
+        const runs = [];
+        for (let y = 0, at = x; y < height; y++, at += width) {
+            if (y > 0 && pixels[at] === pixels[at - width] && runs.length) runs.at(-1)[1]++;
+            else runs.push([y, y + 1, ...data.slice(at * 4, at * 4 + 4)]);
+        }
+        return runs.filter((run) => run[5] > 0);
+    });
+})(document.getElementById("%s"))"""
+PROBE = """Object.fromEntries(%s.map((name) => {
+    const probe = document.body.appendChild(document.createElement("i"));
+    probe.style.color = `var(--${name})`;
+    const colour = getComputedStyle(probe).color;
+    probe.remove();
+    return [name, colour];
+}))""" % json.dumps(COLOURS)
+Call = collections.namedtuple("Call", "canvas name words fill")
+
+
+class Browser:
+    """A Chromium, spoken to by a pair of pipes."""
+
+    def __init__(self, work):
+        (self.ours_in, theirs_out), (theirs_in, self.ours_out) = os.pipe(), os.pipe()
+        words = [picture.browser(), "--headless", "--no-sandbox", "--disable-gpu", "--remote-debugging-pipe", f"--user-data-dir={work}/user"]
+
+        def number_pipes():
+            # the browser reads from 3 and writes to 4; our ends may have these numbers, so they get higher ones first
+            ends = [fcntl.fcntl(end, fcntl.F_DUPFD, 10) for end in (theirs_in, theirs_out)]
+            os.dup2(ends[0], 3)
+            os.dup2(ends[1], 4)
+
+        self.errors, self.buffer, self.number, self.session, self.loaded = [], b"", 0, None, set()
+        self.process = subprocess.Popen(words, preexec_fn=number_pipes, pass_fds=(3, 4), stdout=subprocess.DEVNULL, stderr=subprocess.DEVNULL)
+        os.close(theirs_in)
+        os.close(theirs_out)
+        target = self.ask("Target.createTarget", url="about:blank")["targetId"]
+        self.session = self.ask("Target.attachToTarget", targetId=target, flatten=True)["sessionId"]
+        for domain in "Page", "Runtime", "Log":
+            self.ask(domain + ".enable")
+        self.ask("Page.setLifecycleEventsEnabled", enabled=True)
+        self.ask("Performance.enable", timeDomain="threadTicks")
+        self.ask("Emulation.setDeviceMetricsOverride", width=WIDTH, height=HEIGHT, deviceScaleFactor=1, mobile=False)
+
+    def read(self):
+        while b"\0" not in self.buffer:
+            more = os.read(self.ours_in, 1 << 20)
+            assert more, "the browser has ended"
+            self.buffer += more
+        text, self.buffer = self.buffer.split(b"\0", 1)
+        told = json.loads(text)
+        method, more = told.get("method"), told.get("params", {})
+        if method == "Page.lifecycleEvent" and more["name"] == "load":
+            self.loaded.add(more["loaderId"])
+        if method == "Runtime.exceptionThrown" or (method == "Log.entryAdded" and more["entry"]["level"] in ("error", "warning")):
+            self.errors.append(json.dumps(more)[:400])
+        if method == "Runtime.consoleAPICalled" and more["type"] in ("error", "warning", "assert"):
+            self.errors.append(json.dumps(more)[:400])
+        return told
+
+    def ask(self, method, **more):
+        self.number += 1
+        call = {"id": self.number, "method": method, "params": more}
+        if self.session:
+            call["sessionId"] = self.session
+        text = json.dumps(call).encode() + b"\0"
+        while text:
+            text = text[os.write(self.ours_out, text):]
+        while True:
+            told = self.read()
+            if told.get("id") == self.number:
+                assert "error" not in told, told
+                return told["result"]
+
+    def value(self, script):
+        told = self.ask("Runtime.evaluate", expression=script, returnByValue=True, awaitPromise=True)
+        assert "exceptionDetails" not in told, told["exceptionDetails"]
+        return told["result"].get("value")
+
+    def load(self, url):
+        # the page before may answer that it is complete while the new one comes, and would get its first key
+        loader = self.ask("Page.navigate", url=url)["loaderId"]
+        while loader not in self.loaded:
+            self.read()
+
+    def open(self, path, hash=""):
+        # of the page that is open, another hash alone would load nothing
+        if hash:
+            self.load("about:blank")
+        self.load(path.as_uri() + hash)
+        self.settle()
+
+    def settle(self):
+        self.value("new Promise((done) => requestAnimationFrame(() => requestAnimationFrame(done)))")
+
+    def key(self, key):
+        text = {"text": key} if len(key) == 1 else {"text": "\r"} if key == "Enter" else {}
+        self.ask("Input.dispatchKeyEvent", type="keyDown", key=key, **text)
+        self.ask("Input.dispatchKeyEvent", type="keyUp", key=key)
+        self.settle()
+
+    def mouse(self, x, y, *kinds):
+        for kind in kinds:
+            held = {"button": "left", "clickCount": 1} if kind != "mouseMoved" else {}
+            self.ask("Input.dispatchMouseEvent", type=kind, x=x, y=y, **held)
+            # What the pointer is over is told by what was drawn.
+            self.settle()
+
+    def seconds(self):
+        """How long the page has had the processor."""
+        return next(metric["value"] for metric in self.ask("Performance.getMetrics")["metrics"] if metric["name"] == "TaskDuration")
+
+    def end(self):
+        self.ask("Browser.close")
+        self.process.wait(timeout=picture.WAIT)
+
+
+# ---- what a page has to show
+
+
+class Part(picture.Journal):
+    """A journal of whose steps a page tells some: those of a window, and others by the rules of viewer/README.md, read here again."""
+
+    def __init__(self, text, first, last):
+        super().__init__(text)
+        self.whole, self.shown = picture.Journal(text), (first, last)
+        blocks = [place for place in range(len(self.lines)) if (first - 1) // BLOCK <= place // BLOCK <= (last - 1) // BLOCK]
+        self.window, self.told = range(blocks[0], blocks[-1] + 1), set(blocks)
+        for one in super().asked():
+            by = one.ended.by if one.ended else NEVER
+            if one.place < self.window.start <= by or one.line.split()[1] in ("make", "reopen", "start", "exit"):
+                self.told.add(one.place)
+            if one.ended and (words_of(one) == "stalled" or by >= self.window.start and one.place < self.window.stop):
+                self.told.add(by)
+        self.told |= {place for _, *both in self.passages() for one, other in (both, reversed(both)) if other[0] in self.window for place in one[:2]}
+        self.senders = {received[0]: sent for _, sent, received in self.passages()}
+        self.as_told = [self.known(one) for one in super().asked()]
+
+    def asked(self):
+        return self.as_told
+
+    def known(self, one):
+        """Who got a value that is not told got one. How the calls of told steps ended is told, and when."""
+        assert one.place not in self.told or one.ended is None or one.ended.by in self.told, f"the end of step {one.place + 1}"
+        if " got " in words_of(one) and self.senders[one.place][0] not in self.told:
+            return one._replace(ended=one.ended._replace(event=one.ended.event[: one.ended.event.index(" got ")] + " got a value"))
+        return one
+
+
+def is_told(journal, *places):
+    return not isinstance(journal, Part) or all(place in journal.told for place in places)
+
+
+def words_of(asked):
+    """What a step was told at last."""
+    return asked.ended.event.split(" ", 1)[1] if asked.ended else ""
+
+
+def label_of(asked):
+    """The text of a box without its value."""
+    line, end = asked.line.split(), words_of(asked)
+    if end.startswith("fault"):
+        return "f" + end.split()[1]
+    case = picture.shown_case(line, asked.cases, end) if asked.cases else None
+    if case:
+        return case[0] + case[1]
+    return {"make": "m" + end[5:], "select": "def" if end == "default" else "?", "exit": "exit"}.get(line[1]) or {"close": "c", "reopen": "o", "cancel": "x", "start": "g"}[line[1]] + line[2]
+
+
+def value_of(asked):
+    """The value that a step moved, as the journal spells it."""
+    line, end = asked.line.split(), words_of(asked)
+    if " got " in end:
+        return None if end.endswith(" got a value") else end.split(" got ")[1]
+    if not end.endswith(" sent"):
+        return None
+    return line[3] if line[1] == "send" else line[3 + int(end.split()[1])].split(":")[1]
+
+
+def readable(value):
+    """Bytes as text where they are that, without control characters."""
+    if not value.startswith("#"):
+        return value
+    try:
+        text = bytes.fromhex(value[1:]).decode()
+    except UnicodeDecodeError:
+        return value
+    return value if "\ufffd" in text or any(unicodedata.category(letter)[0] == "C" or unicodedata.category(letter) in ("Zl", "Zp") for letter in text) else f"\u201c{text}\u201d"
+
+
+def held(journal):
+    """The levels: equal ones that follow each other are one."""
+    merged = []
+    for level in journal.levels():
+        if merged and merged[-1].port == level.port and merged[-1].until == level.first and merged[-1].count == level.count:
+            merged[-1] = merged[-1]._replace(until=level.until)
+        else:
+            merged.append(level)
+    return merged
+
+
+def held_after(journal, port, step):
+    """The places of the sends whose values a port holds after a step, oldest first."""
+    sent, received = ([asked for asked, by, _ in journal.moved[side][port] if by <= step] for side in "sr")
+    return sent[len(received) :]
+
+
+def known_of(journal, sends):
+    """Of these sends those by steps of the window."""
+    return [place for place in sends if not isinstance(journal, Part) or journal.asked()[place].ended.by >= journal.window.start]
+
+
+def pid_at(journal, place):
+    return int(journal.lines[place].split()[0])
+
+
+def guess_of(journal, by, pid, case):
+    """For whom a stalled case perhaps waits: a send on a port from which somebody last took its own value back for one whose
+    value it holds, if that one is stalled too and does not wait to send there; or else for whom pictures name."""
+    stalled = {other: picture.cases_of(journal.lines[asked]) for step, other, asked in journal.stalls if step == by}
+    passed = [(sent[0], received[0]) for port, sent, received in journal.passages() if port == int(case[1]) and received[1] <= by]
+    if case[0] == "s" and passed and not is_told(journal, *passed[-1]):
+        return None
+    is_lock = case[0] == "s" and passed and pid_at(journal, passed[-1][0]) == pid_at(journal, passed[-1][1])
+    owners = [pid_at(journal, place) for place in known_of(journal, held_after(journal, int(case[1]), by))] if is_lock else []
+    owner = next((one for one in owners if one in stalled and case not in stalled[one]), None)
+    if owner is not None:
+        return owner
+    return picture.whom(journal, by, case, pid, *(picture.mover(journal.moved[side][int(case[1])], by) for side in "sr"))
+
+
+def guesses(journal):
+    """Of each stall who perhaps waits for whom."""
+    for by, pid, asked in journal.stalls:
+        for case in picture.cases_of(journal.lines[asked]) if not isinstance(journal, Part) or by in journal.window else []:
+            other = guess_of(journal, by, pid, case)
+            if other is not None:
+                yield by, pid, other
+
+
+def ways(journal):
+    """By the place of each move, all moves of that value on its way: a process passes on what it got if it sends the same before
+    it gets another, so a send continues the way of what its process got last, if that is the same."""
+    receivers = {sent[0]: received[0] for _, sent, received in journal.passages()}
+    senders = {received: sent for sent, received in receivers.items()}
+    first, last = {}, {}
+    for one in journal.asked():
+        pid, words = int(one.line.split()[0]), words_of(one)
+        if words.endswith(" sent"):
+            got, value = last.get(pid, (None, None))
+            first[one.place] = first[senders[got]] if value == value_of(one) else one.place
+        if " got " in words:
+            last[pid] = one.place, value_of(one)
+    moves = collections.defaultdict(set)
+    for send, root in first.items():
+        moves[root] |= {send} | ({receivers[send]} if send in receivers else set())
+    return {place: way for way in moves.values() for place in way}
+
+
+def case_words(text):
+    """What a case does, from how a select spells it."""
+    port, _, value = text[1:].partition(":")
+    return f"send {readable(value)} on port {port}" if text[0] == "s" else f"receive from port {port}"
+
+
+def cases_spelled(line):
+    fields = line.split()
+    if fields[1] in ("send", "recv"):
+        return [fields[1][0] + ":".join(fields[2:])]
+    return [text for text in fields[3:] if text != "default"]
+
+
+def held_lines(journal, by):
+    """What the panel says of each port on which a call that a step stalled waits to send, if it holds values."""
+    stalled = [asked for step, _, asked in journal.stalls if step == by]
+    asked = journal.asked()
+    for port in dict.fromkeys(int(port) for place in stalled for side, port in asked[place].cases if side == "s"):
+        held = held_after(journal, port, by)
+        known = known_of(journal, held)
+        told = [f"{readable(value_of(asked[place]))}, sent by P{pid_at(journal, place)} at step {place + 1}" for place in known[:4]]
+        if held:
+            yield f"port {port} holds {len(held)} value{'s' if len(held) > 1 else ''}" + (": " if told else "") + "; ".join([*told, *[".."][: len(known) > 4]])
+
+
+def stalled_lines(journal, by):
+    """What the panel says of each call that a step stalled."""
+    for step, pid, asked in journal.stalls:
+        if step == by:
+            line = journal.lines[asked]
+            others = [guess_of(journal, by, pid, case) for case in picture.cases_of(line)]
+            told = "".join(f"; perhaps for P{other}" for other in others if other is not None)
+            yield f"P{pid}, step {asked + 1} waits to {' or to '.join(map(case_words, cases_spelled(line)))}{told}"
+
+
+def last_cells(journal, by):
+    """What the panel says of each port on which a call that a step stalled waits: who sent and who received there last, and, if one waits
+    to send there, whether all who received have exited."""
+    cases = [case for step, _, asked in journal.stalls if step == by for case in picture.cases_of(journal.lines[asked])]
+    for port in dict.fromkeys(port for _, port in cases if port != "0"):
+        sent, got = ([place for place, step, _ in journal.moved[side][int(port)] if step <= by] for side in "sr")
+        movers = [f"P{pid_at(journal, places[-1])}, step {places[-1] + 1}" if places and is_told(journal, places[-1])
+            else f"step {places[-1] + 1} (not told)" if places else "nobody" for places in (sent, got)]
+        opened = max((step for step in journal.reopened[int(port)] if step <= by), default=-1)
+        receivers = {pid_at(journal, place) for place, step, _ in journal.moved["r"][int(port)] if opened < step <= by}
+        is_gone = ("s", port) in cases and set() < receivers <= journal.left(by)
+        yield from [port, movers[0], movers[1] + ("; all who received there have left" if is_gone else "")]
+
+
+def cause_lines(journal, by):
+    """What the panel says first of a deadlock: to which port nobody ever came, who wait for each other, and who is left alone."""
+    stalled = [(pid, asked) for step, pid, asked in journal.stalls if step == by]
+    told, pairs = [], []
+    for pid, asked in stalled if not isinstance(journal, Part) or by in journal.window else []:
+        for case in picture.cases_of(journal.lines[asked]):
+            other, absent = ("r", "received from") if case[0] == "s" else ("s", "sent on")
+            if case[1] != "0" and not any(step <= by for _, step, _ in journal.moved[other][int(case[1])]):
+                told.append(f"Before it nobody {absent} port {case[1]}.")
+            pairs.append((pid, guess_of(journal, by, pid, case)))
+    told += [f"P{pid} and P{other} perhaps wait for each other." for pid, other in pairs if other is not None and pid < other and (other, pid) in pairs]
+    return list(dict.fromkeys(told + ["All others have exited."] * (len(stalled) == 1 and journal.procs > 1)))
+
+
+def own_steps(journal, place):
+    """The steps before and behind one that its process asked, if they are there."""
+    own = [at for at, line in enumerate(journal.lines) if line.split()[0] == journal.lines[place].split()[0]]
+    at = own.index(place)
+    return own[at - 1] if at else None, own[at + 1] if at + 1 < len(own) else None
+
+
+def waits_told(journal):
+    """All calls that waited, the longest first and the older of equal ones first: for how long, and the words of the panel."""
+    asked = journal.asked()
+    waits = [((one.ended.by if one.ended else len(asked) - 1) - one.place, one) for one in asked
+        if one.ended is None or one.ended.by > one.place]
+    for steps, one in sorted(waits, key=lambda wait: (-wait[0], wait[1].place)):
+        ender = "the deadlock at" if words_of(one) == "stalled" else f"P{pid_at(journal, one.ended.by)}," if one.ended else ""
+        until = f"{ender} step {one.ended.by + 1}" if one.ended else "the end"
+        yield [str(steps), f"P{pid_at(journal, one.place)}, step {one.place + 1} {one.line} {answer_of(one)}", until]
+
+
+# ---- what it draws
+
+
+class Shape:
+    def __init__(self, told):
+        self.__dict__.update(told)
+
+    def right(self):
+        return self.x + self.width
+
+    def middle(self):
+        return self.y + self.height / 2
+
+
+class Drawn:
+    """The shapes in the page, the calls to the canvas, and the scales that names tell: where a step and where a process stands."""
+
+    def __init__(self, browser, procs):
+        self.shapes = [Shape(told) for told in browser.value(SHAPES)]
+        calls = [Call(*call) for call in browser.value("window.drawn")]
+        self.colours = browser.value(PROBE)
+        self.width = browser.value("document.getElementById('lanes').clientWidth")
+        self.calls = [call for call in calls if call.canvas == "far"]
+        ticks = sorted((int(call.words[0]), call.words[1]) for call in calls if call.canvas == "axis" and str(call.words[0]).isdigit())
+        self.dots = (ticks[-1][1] - ticks[0][1]) / (ticks[-1][0] - ticks[0][0])
+        self.zero = ticks[0][1] - ticks[0][0] * self.dots
+        names = {shape.text: shape.y for shape in self.kind("name")}
+        self.lanes = {pid: names["P%d" % pid] for pid in range(procs)} | ({procs: names["unknown"]} if "unknown" in names else {})
+        self.ports = {int(name[5:]): y for name, y in names.items() if name.startswith("port ")}
+        self.procs = procs
+
+    def kind(self, name):
+        return [shape for shape in self.shapes if name in shape.kind]
+
+    def x(self, place):
+        return self.zero + (place + 1) * self.dots
+
+    def lane(self, y):
+        return min(self.lanes, key=lambda pid: abs(self.lanes[pid] - y))
+
+    def port(self, y):
+        return min(self.ports, key=lambda port: abs(self.ports[port] - y))
+
+    def pid(self, line):
+        return min(int(line.split()[0]), self.procs)
+
+
+def close(one, other, by=1.0):
+    return len(one) == len(other) and all(abs(a - b) <= by if isinstance(a, float) or isinstance(b, float) else a == b for a, b in zip(one, other))
+
+
+def agree(name, drawn, wanted, by=1.0):
+    """All of these are drawn, as often as wanted, and nothing else."""
+    left = sorted(drawn)
+    for shape in sorted(wanted):
+        found = next((at for at, other in enumerate(left) if close(shape, other, by)), None)
+        assert found is not None, f"no {name} {shape} among {left[:6]}"
+        left.pop(found)
+    assert not left, f"{name} too many: {left[:4]}"
+
+
+def answer_of(one):
+    """What a step was told, in words."""
+    words = words_of(one)
+    fault = re.fullmatch(r"fault (\d+)", words)
+    told = "waits to the end" if one.ended is None else f"{words}: {story_model.FAULTS[int(fault[1]) - 1]}" if fault else words
+    told = re.sub(r"^case \d+ ", "", told)
+    got = re.fullmatch(r"got (.*)", told)
+    return f"got {readable(got[1])}" if got else told
+
+
+def title_of(one, count):
+    """What the mouse on a box is told."""
+    told = answer_of(one)
+    steps = (one.ended.by if one.ended else count - 1) - one.place
+    waits = one.ended is None or steps > 0
+    return f"step {one.place + 1}: {one.line}\n{told}" + (f", waited {steps} step{'' if steps == 1 else 's'}" if waits else "")
+
+
+def bars_of(drawn, journal, first, end, left):
+    """Each call that waits, from where to where, and whether it ends."""
+    asked, edge = journal.asked(), drawn.width + 2
+    for one in asked if not isinstance(journal, Part) else [one for one in asked if one.place in journal.told]:
+        until = len(asked) if one.ended is None else one.ended.by
+        if one.place < until and one.place < end and until >= first:
+            begin = max(left, drawn.x(one.place))
+            yield one, begin, max(begin, min(edge, drawn.x(until))), drawn.pid(one.line)
+
+
+def levels_of(drawn, journal, first, end):
+    count, window = len(journal.lines), journal.window if isinstance(journal, Part) else range(len(journal.lines))
+    for level in held(journal):
+        until, since = min(count if level.until is None else level.until, window.stop), max(level.first, window.start - 1)
+        if since < min(end, window.stop) and until >= max(first, window.start):
+            left = max(64.0, drawn.x(since))
+            yield left, max(left + 1, min(float(drawn.width), drawn.x(until))), level.port, 16.0 * level.count / journal.room[level.port]
+
+
+def fill_of(colours, label):
+    """How the box of this label is filled."""
+    if re.fullmatch(r"[sr]\d+", label):
+        return colours["paper"] if label[0] == "r" else colours["h%d" % (int(label[1:]) % 8)] if label != "s0" else colours["edge"]
+    return colours["grey"]
+
+
+def dash_of(one):
+    """How the edge of a box is dashed."""
+    end = words_of(one)
+    if end == "stalled" or end.startswith("fault") or end.endswith(" closed"):
+        return "6px, 2px"
+    return "4px, 3px" if one.ended is None else "2px, 3px" if end.endswith(" drained") else "1px, 2px" if end == "cancelled" else "none"
+
+
+def check_boxes(drawn, journal, first, end):
+    asked = journal.asked()
+    boxes = {one.place: one for one in asked[first:end] if is_told(journal, one.place)}
+    agree("box", [(shape.x + shape.width / 2, drawn.lane(shape.middle())) for shape in drawn.kind("box")],
+          [(drawn.x(one.place), drawn.pid(one.line)) for one in boxes.values()])
+    for shape in drawn.kind("box"):
+        one = boxes[round((shape.x + shape.width / 2 - drawn.zero) / drawn.dots) - 1]
+        assert shape.told == title_of(one, len(asked)), f"{shape.told!r} and not {title_of(one, len(asked))!r}"
+        if drawn.dots >= 5:
+            wanted = fill_of(drawn.colours, label_of(one)), dash_of(one)
+            assert (shape.fill, shape.dash) == wanted, f"step {one.place + 1} has {shape.fill} {shape.dash} and not {wanted}"
+    texts = {round((shape.x - drawn.zero) / drawn.dots) - 1: shape.text for shape in drawn.kind("label")}
+    for one in boxes.values() if drawn.dots >= 60 else ():
+        label, value = label_of(one), value_of(one)
+        allowed = {label} if value is None else {f"{label}:{readable(value)}", label}
+        assert texts.get(one.place) in allowed, f"box {one.place + 1}: {texts.get(one.place)} and not {allowed}"
+        assert value is None or len(label + value) > 6 or texts[one.place] == f"{label}:{readable(value)}", f"no value at step {one.place + 1}: {texts[one.place]}"
+
+
+def check_shapes(drawn, journal, first, end):
+    colours, dots = drawn.colours, drawn.dots
+    check_boxes(drawn, journal, first, end)
+    bars = list(bars_of(drawn, journal, first, end, 62.0))
+    agree("bar", [(float(shape.x), float(shape.right()), drawn.lane(shape.middle())) for shape in drawn.kind("bar")], [bar[1:] for bar in bars])
+    agree("knob", [(float(shape.cx), drawn.lane(shape.cy)) for shape in drawn.kind("knob")], [
+        (right, lane) for one, _, right, lane in bars if one.ended and one.ended.by < end])
+    agree("arrow", [(shape.way[0], shape.way[-2], drawn.lane(shape.way[1]), drawn.lane(shape.way[-1]), shape.stroke) for shape in drawn.kind("arrow")], [
+        (drawn.x(sent[1]), drawn.x(received[1]), drawn.pid(sent[2]), drawn.pid(received[2]), colours["h%d" % (port % 8)])
+        for port, sent, received in journal.passages() if is_told(journal, *sent[:2], *received[:2])
+        and (first <= sent[1] < end or first <= received[1] < end)])
+    agree("level", [(float(shape.x), float(shape.right()), drawn.port(shape.y + shape.height - 8), float(shape.height)) for shape in drawn.kind("level")],
+          list(levels_of(drawn, journal, first, end)), 0.6)
+    agree("stall", [(shape.x + shape.width / 2, drawn.lane(shape.middle())) for shape in drawn.kind("field")], [
+        (drawn.x(by), pid) for by, pid, asked in journal.stalls if first <= by < end and is_told(journal, asked)])
+    told = {(shape.way[0], drawn.lane(shape.way[1]), drawn.lane(shape.way[-1])) for shape in drawn.kind("guess")}
+    agree("guess", told, {(drawn.x(by) + min(66, dots * 0.9) / 2 + 3, pid, other) for by, pid, other in guesses(journal) if first <= by < end})
+
+
+def check_canvas(drawn, journal, first, end):
+    """The same of more steps, where a box is a rectangle without an edge, and there are no arrows."""
+    rects = [call for call in drawn.calls if call.name == "fillRect"]
+    bottom, width = max(drawn.lanes.values()) + 8, max(1, drawn.dots * 0.9)
+    lanes = [call.words for call in rects if call.words[1] < bottom]
+    as_wide = [words for words in lanes if abs(words[2] - width) < 0.01]
+    height = max((words[3] for words in as_wide), default=0)
+    boxes = [words for words in as_wide if words[3] >= 4 and words[3] == height]
+    agree("box", [(x + w / 2, drawn.lane(y + h / 2)) for x, y, w, h in boxes], [
+        (drawn.x(one.place), drawn.pid(one.line)) for one in journal.asked()[first:end] if is_told(journal, one.place)])
+    thin = min((words[3] for words in lanes), default=0)
+    bars = [words for words in lanes if words[3] == thin and words not in boxes]
+    agree("bar", [(float(x), float(x + w), drawn.lane(y + h / 2)) for x, y, w, h in bars], [bar[1:] for bar in bars_of(drawn, journal, first, end, 62.0)])
+    levels = [call.words for call in rects if call.words[1] >= bottom]
+    agree("level", [(float(x), float(x + w), drawn.port(y + h - 8), float(h)) for x, y, w, h in levels], list(levels_of(drawn, journal, first, end)), 0.6)
+
+
+def pixels_of(browser, id):
+    """Of each column of a canvas the runs of one colour: from where to where, and which, as colours are spelled."""
+    for runs in browser.value(PIXELS % id):
+        assert all(alpha == 255 for *_, alpha in runs), "a pixel that shines through"
+        yield [(top, end, f"rgb({red}, {green}, {blue})") for top, end, red, green, blue, _ in runs]
+
+
+def rounded(number):
+    return math.floor(number + 0.5)
+
+
+def rows_of(size, fine):
+    """How many pixels high a column of so many dots is; of a height that is a half more than whole, both."""
+    return {max(1, rounded(one * fine)) if one > 0.2 else 0 for one in (size - 1e-7, size + 1e-7)}
+
+
+class Summed:
+    """What is known of each block of steps, counted step by step, and spread evenly over it: what lanes waited and so on, before a step."""
+
+    def __init__(self, journal):
+        self.count, self.tables = len(journal.lines), {}
+        blocks, asked = blocks_of(self.count), journal.asked()
+        for lane in range(journal.procs + 1):
+            own = [(one, one.ended.by if one.ended else self.count) for one in asked if lane_of(journal, one) == lane]
+            self.tables["waited", lane] = [sum(max(0, min(by, end) - one.place) for one, by in own) for _, end in [(0, 0), *blocks]]
+            self.tables["asked", lane] = [sum(one.place < end for one, _ in own) for _, end in [(0, 0), *blocks]]
+            self.tables["troubles", lane] = [sum(by < end and is_trouble(words_of(one)) for one, by in own) for _, end in [(0, 0), *blocks]]
+        held_in = {level.port for level in journal.levels()}
+        self.most = {port: [most_held(journal, port, *block) for block in blocks] for port in held_in}
+
+    def before(self, name, lane, step):
+        at = min(len(self.tables[name, lane]) - 2, int(max(0, step) // BLOCK))
+        begin, end = at * BLOCK, min(self.count, (at + 1) * BLOCK)
+        one, other = self.tables[name, lane][at : at + 2]
+        return one + (other - one) * (step - begin) / (end - begin)
+
+    def share(self, name, lane, first, end):
+        return (self.before(name, lane, end) - self.before(name, lane, first)) / (end - first)
+
+
+def columns_of(drawn, journal, summed, first, end, fine):
+    """The runs that a column of these steps may have: of most there is one."""
+    rows = []
+    lane_height = drawn.lanes[1] - drawn.lanes[0]
+    for name, colour, weight in ("waited", "h1", 0.8), ("asked", "edge", 1.2), ("troubles", "trouble", 1e9):
+        for lane, y in drawn.lanes.items():
+            size = min(1, summed.share(name, lane, first, end) * weight) * (lane_height - 2)
+            rows.append((drawn.colours[colour], y * fine, rows_of(size, fine), 0.5))
+    for port, y in drawn.ports.items():
+        most = max(summed.most[port][int(max(0, first) // BLOCK) : math.ceil(end / BLOCK)])
+        rows.append((drawn.colours[f"h{port % 8}"], (y + 8) * fine, rows_of(16 * most / journal.room[port], fine), 1))
+    for several in itertools.product(*(many for _, _, many, _ in rows)):
+        colours = {}
+        for (colour, y, _, above), many in zip(rows, several):
+            top = rounded(y - many * above)
+            colours |= {row: colour for row in range(top, top + many)}
+        yield runs_of(colours)
+
+
+def runs_of(colours):
+    """The runs of a column, from the colour of each row."""
+    runs = []
+    for row in sorted(colours):
+        if runs and runs[-1][1] == row and runs[-1][2] == colours[row]:
+            runs[-1] = (runs[-1][0], row + 1, colours[row])
+        else:
+            runs.append((row, row + 1, colours[row]))
+    return runs
+
+
+def check_far(browser, journal, summed, first, steps, fine):
+    """Each pixel of more steps than are drawn one by one."""
+    drawn, _ = drawn_at(browser, journal, first, steps)
+    step_at = lambda x: min(float(summed.count), (x - drawn.zero) / drawn.dots - 0.5)
+    pixels, width = list(pixels_of(browser, "far")), math.floor(min(drawn.width, drawn.x(summed.count - 1) + drawn.dots / 2) - 64)
+    assert len(pixels) == rounded(drawn.width * fine), f"{len(pixels)} columns"
+    wanted = [[[]]] * len(pixels)
+    for left in range(64, 64 + width, 2):
+        columns = list(columns_of(drawn, journal, summed, step_at(left), step_at(left + 2), fine))
+        for x in range(rounded(left * fine), min(len(pixels), rounded((left + 2) * fine))):
+            wanted[x] = columns
+    wrong = [x for x, (one, several) in enumerate(zip(pixels, wanted)) if one not in several]
+    assert not wrong, f"{len(wrong)} columns, the first at {wrong[0]}: {sorted({*pixels[wrong[0]]} ^ {*wanted[wrong[0]][0]})[:3]}"
+
+
+# what is wrong in a viewer, which has to be noticed: what stands there, and what is put there
+BROKEN = {
+    "bands are a pixel too high": ("Math.max(1, Math.round(size * fine))", "1 + Math.round(size * fine)"),
+    "columns are shifted by a pixel": ("Math.round((left + dot) * fine)", "Math.round((left + dot) * fine + 1)"),
+    "a lane is left out": ("of view.place)\n            this.fillColumns", "of [...view.place].slice(1))\n            this.fillColumns"),
+    "bands stand a pixel too high": ("Math.round(y * fine - rows * above)", "Math.round(y * fine - rows * above - 1)"),
+    "columns tell of the steps of the next ones": ("first + dot / dots", "first + (dot + 2) / dots"),
+    "levels are those of a block later": ("let row = (at + 1) * width + port", "let row = (at + 2) * width + port"),
+    "pixels of the device are taken for dots": ("devicePixelRatio || 1", "1"),
+}
+
+
+def check_columns(browser, count, work):
+    """Views from afar, on several screens, and whether a wrong one would be noticed."""
+    text = RandomJournal(*FAR).text()
+    journal = picture.Journal(text.encode())
+    summed, path, right = Summed(journal), work / "far.html", page_of(text)
+
+    def look(text, fine, *view):
+        browser.ask("Emulation.setDeviceMetricsOverride", width=WIDTH, height=HEIGHT, deviceScaleFactor=fine, mobile=False)
+        path.write_text(text)
+        browser.open(path)
+        check_far(browser, journal, summed, *view, fine)
+
+    for fine, *view in (1, 0, FAR[1]), (1, 300, 6100), (1.5, 300, 6100), (2, 0, FAR[1]), (2, 300, 6100):
+        count.run(f"columns of {view[1]} steps, {fine} pixels a dot", lambda: look(right, fine, *view))
+    for name, (old, new) in BROKEN.items():
+        wrong, is_noticed = right.replace(old, new), False
+        try:
+            look(wrong, 2, 300, 6100)
+        except AssertionError:
+            is_noticed = True
+        count.test(f"it is noticed that {name}", right.count(old) == 1 and is_noticed)
+    browser.ask("Emulation.setDeviceMetricsOverride", width=WIDTH, height=HEIGHT, deviceScaleFactor=1, mobile=False)
+
+
+def in_view(drawn, count):
+    """The first step whose column reaches between the lanes' names and the right edge, by the axis, and the one behind the last."""
+    first, end = (round((x - drawn.zero) / drawn.dots - 0.5, 6) for x in (64, drawn.width))
+    return math.floor(first), min(count, math.ceil(end))
+
+
+def drawn_at(browser, journal, first, steps):
+    browser.value(f"page.view.show({first}, {steps}); window.drawn = []; page.paint()")
+    drawn = Drawn(browser, journal.procs)
+    return drawn, in_view(drawn, len(journal.lines))
+
+
+TOOLS = []  # the program that writes pages, if one is given
+
+
+def page_of(text, window=None):
+    """The page of a journal, or of the steps from one to another, which the program writes as page.py does."""
+    made = []
+    page.write_page(text.splitlines(), made.append, window)
+    wanted = "".join(made)
+    for tool in TOOLS:
+        told = subprocess.run([tool, "page", *map(str, window or ())], input=text.encode(), stdout=subprocess.PIPE, check=True).stdout.decode()
+        at = next((at for at, (one, other) in enumerate(zip(told, wanted)) if one != other), min(len(told), len(wanted)))
+        assert told == wanted, f"{told[at - 40:at + 40]!r} and not {wanted[at - 40:at + 40]!r}"
+    return wanted
+
+
+def open_page(browser, text, path, window=None):
+    path.write_text(page_of(text, window))
+    browser.open(path)
+
+
+def check_waiting(browser, journal):
+    """How many processes wait in each column of the strip, and where calls are stalled."""
+    browser.value("page.layOut()")
+    colours, pixels = browser.value(PROBE), list(pixels_of(browser, "strip"))
+    asked, total = journal.asked(), len(journal.lines)
+    waits = [(one.place, one.ended.by if one.ended else total) for one in asked if one.ended is None or one.ended.by > one.place]
+    marks = {x + more for by, _, _ in journal.stalls for x in [int(by / (total / WIDTH))] for more in range(max(2, int(1 / (total / WIDTH))))}
+    assert len(pixels) == WIDTH, f"{len(pixels)} columns"
+    for x, runs in enumerate(pixels):
+        first, end = x // 2 * 2 * total / WIDTH, (x // 2 * 2 + 2) * total / WIDTH
+        height = 32 / journal.procs * sum(max(0, min(until, end) - max(since, first)) for since, until in waits) / (end - first)
+        waiting = [[(48 - rows, 48, colours["h1"])] if rows else [] for rows in rows_of(height, 1)]
+        wanted = [[(16, 48, colours["trouble"])]] if x in marks else waiting
+        assert runs in wanted, f"column {x}: {runs} and not {wanted}"
+
+
+def check_random(browser, count, work, seed, third=False):
+    text = RandomJournal(seed, 0, third).text()
+    journal = picture.Journal(text.encode())
+    open_page(browser, text, work / "random.html")
+    draw, total = random.Random(seed).randrange, len(journal.lines)
+    for steps in (total, 40, 12):
+        first = draw(total - steps + 1)
+
+        def test():
+            drawn, at = drawn_at(browser, journal, first, steps)
+            check_shapes(drawn, journal, *at)
+
+        count.run(f"random journal {seed}, {steps} steps from {first + 1} on", test)
+    count.run(f"strip of random journal {seed}", lambda: check_waiting(browser, journal))
+    count.run(f"sketches of random journal {seed}", lambda: check_sketches(text, journal))
+    count.run(f"data of random journal {seed}", lambda: check_data(browser, journal))
+    count.run(f"search in random journal {seed}", lambda: check_search(browser, journal))
+    count.run(f"ways in random journal {seed}", lambda: check_ways(browser, journal))
+    count.run(f"panel of random journal {seed}", lambda: check_panel(browser, journal, draw))
+    first = draw(total)
+    window = first + 1, first + 1 + draw(min(90, total - first))
+    check_part(browser, count, work, text, f"random journal {seed}", window, [(0, total), (max(0, first - 5), 30)])
+
+
+def check_part(browser, count, work, text, name, window, several):
+    """A page of some steps: it opens with them in view; nothing that is not told is drawn, found, chosen or said."""
+    journal = Part(text.encode(), *window)
+    open_page(browser, text, work / "part.html", window)
+    name, (first, last) = f"steps {window[0]} to {window[1]} of {name}", window
+
+    def test(drawn, at):
+        (check_shapes if drawn.dots * 500 >= drawn.width - 108 else check_canvas)(drawn, journal, *at)
+        check_fields(browser, drawn, journal)
+
+    opened = browser.value("[page.view.first, page.view.steps, (page.view.width - 64) / 90]")
+    steps = min(len(journal.lines), max(last - first + 1, opened[2]))
+    count.test(f"{name} are in view", close(opened[:2], [float(min(first - 1, len(journal.lines) - steps)), float(steps)], 0.5), opened)
+    for view in [tuple(opened[:2]), *several]:
+        count.run(f"{name}: view {view}", lambda: test(*drawn_at(browser, journal, *view)))
+    count.run(f"{name}: the way back", lambda: check_way_back(browser, journal, opened[:2]))
+    count.run(f"{name}: what is told", lambda: check_told(text, journal))
+    count.run(f"{name}: search", lambda: check_search(browser, journal))
+    count.run(f"{name}: panel", lambda: check_part_panel(browser, journal))
+
+
+def check_way_back(browser, journal, opened):
+    """A link in the header leads to the steps that are told, if not all are."""
+    browser.value("page.view.show(0, 40); new Promise((done) => setTimeout(done, 300))")  # until the address has followed
+    link, (first, end), count = texts(browser, "#part a"), (journal.window.start, journal.window.stop), len(journal.lines)
+    assert link == ([f"Steps {first + 1} to {end}"] if end - first < count else []), link
+    said = browser.value("document.getElementById('told').parentElement.checkVisibility()")
+    assert said == bool(link), "what is said of values that lie in a port all along"
+    if link:
+        browser.value("document.querySelector('#part a').click()")
+        browser.settle()
+        view = browser.value("[page.view.first, page.view.steps]")
+        assert close(view, opened, 0.5) and title(browser) == "The whole", view
+    begin = math.ceil(round(browser.value("page.view.first"), 6))
+    several = found(browser, "P0")[0]
+    wanted = next((place for place in several if place >= begin), several[0] if several else None)
+    assert several == [] or title(browser) == f"Step {wanted + 1} of P0", (title(browser), wanted, begin)
+    browser.value("page.endFind(); page.choose(null)")
+    links = {int(place) for place in browser.value("[...document.querySelectorAll('#end a')].map((one) => one.textContent)")}
+    named = {int(step) for step in re.findall(r"step (\d+)", browser.value("document.getElementById('end').textContent"))}
+    assert links == {step for step in named if step - 1 in journal.told}, (links, named)
+
+
+def check_fields(browser, drawn, journal):
+    """Pale fields stand where the columns of the steps before the window and behind it are in view, and say so."""
+    told = browser.value("""["early", "late"].map((id) => document.getElementById(id)).map((one) => [one.offsetLeft, one.offsetWidth, one.textContent])""")
+    count, dots = len(journal.lines), drawn.dots / 2
+    for (left, width, text), (first, end) in zip(told, ((0, journal.window.start), (journal.window.stop, count))):
+        begin, until = max(64, drawn.x(first) - dots), min(drawn.width, drawn.x(end) - dots)
+        wanted = [begin, until - begin] if until > begin else [left, 0]
+        assert close([float(left), float(width)], wanted, 1.1), f"a field {left} {width} and not {wanted}"
+        assert width == 0 or text == f"not told: steps {first + 1} to {end}, but for boxes", text
+
+
+def check_told(text, journal):
+    lines, (first, last) = data_of(text, journal.shown).splitlines(), journal.shown
+    assert lines[2] == f"steps {first} {last}", lines[2]
+    whole = data_of(text).splitlines()[3:]
+    steps = [line for line in zip(lines[3:], whole) if not line[1].startswith("~")]
+    for place, (told, line) in enumerate(steps):
+        assert told == (line if place in journal.told else ""), f"step {place + 1}: {told!r}"
+    assert [told for told, line in zip(lines[3:], whole) if line[0] == "~"] == [line for line in whole if line[0] == "~"], "sketches"
+
+
+def check_value(browser, journal, one):
+    """What the panel says of a value that a step moved: what it was, and where its other end is, if that is told."""
+    said, words, value = texts(browser, "#value")[0], words_of(one), value_of(one)
+    if not (" got " in words or words.split(" ")[-1:] == ["sent"]):
+        assert said == "", f"a value at step {one.place + 1}: {said}"
+        return
+    assert said.startswith(f"{'not told' if value is None else readable(value)} "), f"value of step {one.place + 1}: {said}"
+    if " got " in words:
+        sent = journal.senders[one.place][0]
+        wanted = f"from P{pid_at(journal, sent)}, step {sent + 1}" if sent in journal.told else f"from step {sent + 1} (not told)"
+    else:
+        received = next((received for received, sent in journal.senders.items() if sent[0] == one.place), None)
+        is_known = received in journal.told
+        wanted = f"to P{pid_at(journal, received)}, step {received + 1}" if is_known else "stays in port" if one.place in journal.window else "who got it is not told"
+    assert wanted in said, f"value of step {one.place + 1}: {said} and not {wanted}"
+
+
+JUNK = re.compile("null|undefined|NaN|Infinity|\\[object")
+
+
+def check_part_panel(browser, journal):
+    """What the panel says of steps that are told, and that others are not."""
+    whole, (first, end) = browser.value("document.getElementById('panel').innerText"), (journal.window.start, journal.window.stop)
+    count = len(journal.lines)
+    wanted = [f"Steps {first + 1} to {end} are told, and of the others those that bear on them."] if end - first < count else [""]
+    told = texts(browser, "#told")
+    assert told == wanted and not JUNK.search(whole), (told, whole)
+    rows = []
+    for steps, words, until in list(waits_told(journal.whole))[:5]:
+        one = journal.asked()[int(re.search(r"step (\d+)", words)[1]) - 1]
+        words = f"P{pid_at(journal, one.place)}, step {one.place + 1}"
+        told = [f"{words} {one.line} {answer_of(one)}", until]
+        rows += [steps, *(told if one.place in journal.told else [f"{words} (not told)"])]
+    told = texts(browser, "#longest td")
+    assert told == rows, f"{told} and not {rows}"
+    inside = sorted(journal.told & set(journal.window))
+    outside = sorted(journal.told - set(journal.window))
+    for place in [*inside[:2], *inside[-2:], *outside[:: len(outside) // 8 + 1], *{by for by, _, _ in journal.stalls}]:
+        browser.value(f"page.choose({place})")
+        said = browser.value("document.getElementById('panel').innerText")
+        assert title(browser) == f"Step {place + 1} of P{pid_at(journal, place)}" and not JUNK.search(said), (place + 1, JUNK.search(said), said)
+        check_value(browser, journal, journal.asked()[place])
+        before = [f"{one.place + 1} {one.line if one.place in journal.told else 'not told'}" for one in journal.asked()[max(0, place - 6) : place]]
+        said = texts(browser, "#before li")
+        assert len(said) == len(before) and all(map(str.startswith, said, before)), f"before step {place + 1}: {said} and not {before}"
+    for place in {by for by, _, _ in journal.stalls} & set(journal.window):
+        browser.value(f"page.choose({place})")
+        for id, lines in ("cause", cause_lines(journal, place)), ("full", held_lines(journal, place)), ("stalled", stalled_lines(journal, place)):
+            said, lines = texts(browser, f"#{id} li"), [line.strip() for line in lines]
+            assert said == lines, f"{id} at step {place + 1}: {said} and not {lines}"
+        said, cells = texts(browser, "#last td"), list(last_cells(journal, place))
+        assert said == cells, f"who was there last at step {place + 1}: {said} and not {cells}"
+    for place in sorted(set(range(count)) - journal.told)[:3]:
+        shown = title(browser)
+        browser.value(f"page.choose({place})")
+        assert texts(browser, "#none") == [f"Step {place + 1} is not told."] and title(browser) == shown, (place, texts(browser, "#none"))
+    for place in inside[-3:]:
+        following = own_steps(journal, place)[1]
+        browser.value(f"page.choose({place}); page.keys.J()")
+        said, shown = texts(browser, "#none"), title(browser)
+        near = [at for at in range(place + 1, following or place) if at // BLOCK in (place // BLOCK, following // BLOCK)]  # its own, perhaps
+        known = following is not None and journal.told.issuperset([*near, following])
+        assert known or (said == ["No such step is told."] and shown.startswith(f"Step {place + 1} ")), (place, said, shown)
+        assert not known or (said == [""] and shown.startswith(f"Step {following + 1} ")), (place, said, shown)
+    browser.value("page.choose(null)")
+    assert texts(browser, "#none") == [""] and title(browser) == "The whole", texts(browser, "#none")
+
+
+def check_long(browser, count, work, seed, total):
+    """A journal of many blocks: what a window shows began and ends in other ones."""
+    text = RandomJournal(seed, total).text()
+    journal = picture.Journal(text.encode())
+    open_page(browser, text, work / "random.html")
+    draw = random.Random(seed).randrange
+    places = [(steps, draw(total - steps + 1)) for steps in (total, 900, 450, 100, 100, 30, 30)]
+    places += [(60, at * BLOCK - back) for at, back in zip(range(3, total // BLOCK, 4), (60, 58, 57, 30, 2, 0) * 9)]  # blocks' ends
+    for steps, first in places:
+
+        def test():
+            drawn, at = drawn_at(browser, journal, first, steps)
+            (check_shapes if steps <= 500 else check_canvas)(drawn, journal, *at)
+
+        count.run(f"long journal {seed}, {steps} steps from {first + 1} on", test)
+    count.run(f"sketches of long journal {seed}", lambda: check_sketches(text, journal))
+    count.run(f"data of long journal {seed}", lambda: check_data(browser, journal))
+    count.run(f"overview of long journal {seed}", lambda: check_overview(text, journal))
+    count.run(f"search in long journal {seed}", lambda: check_search(browser, journal))
+    count.run(f"ways in long journal {seed}", lambda: check_ways(browser, journal))
+    count.run(f"panel of long journal {seed}", lambda: check_panel(browser, journal, draw))
+    window = total // 3, total // 3 + 700
+    check_part(browser, count, work, text, f"long journal {seed}", window, [(0, total), (window[0] - 30, 100), (window[1] - 30, 60), (total - 50, 50)])
+
+
+def check_edges(browser, count, work):
+    """Journals of no step, and of as many as blocks have, with one more or less."""
+    open_page(browser, "chanhub journal 1\nprocs 2\n", work / "empty.html")
+    told = browser.value("[page.journal.steps, page.journal.blocks, document.querySelector('#whole p').textContent]")
+    count.test("a page of no steps", told == [0, 0, "0 steps of 2 processes on 0 ports"], told)
+    for total in 1, BLOCK - 1, BLOCK, BLOCK + 1, 2 * BLOCK:
+        text = RandomJournal(total, total).text()
+        journal = picture.Journal(text.encode())
+        open_page(browser, text, work / "edges.html")
+        count.run(f"sketches of {total} steps", lambda: check_sketches(text, journal))
+        count.run(f"data of {total} steps", lambda: check_data(browser, journal))
+
+
+CLOCK = """chanhub journal 2
+procs 3
+2 recv 0
+0 make 0
+0 cancel 2
+0 recv 1
+2 cancel 0
+2 recv 0
+1 recv 1
+0 exit
+2 recv 0
+1 exit
+"""
+
+
+def check_clock(browser, count, work):
+    """A call that the clock cancels has timed out; the clock is woken, and is nobody who waits for others; its own end is no deadlock."""
+    open_page(browser, CLOCK, work / "clock.html")
+    names = texts(browser, "#lanes .name")
+    count.test("the clock's lane has its name", names == ["P0", "P1", "clock"], names)
+    answers = browser.value("page.journal.stepsOf(0, 10).map((step) => step.answer)")
+    count.test("answers by the clock, and to it", answers == ["woken", "made 1", "done", "timed out", "done", "woken", "stalled", "done", "woken", "done"], answers)
+    found_by = found(browser, "timed", "woken", "cancelled", "deadlock")
+    count.test("search for what the clock does", found_by == [[3], [0, 5, 8], [], [7]], found_by)
+    told = texts(browser, "#deadlocks"), texts(browser, "#stalls li")
+    count.test("the clock is not among those who are stalled", told == (["1 deadlock"], ["step 8 stalls P1"]), told)
+    browser.value("page.choose(7)")
+    said = texts(browser, "#cause li"), texts(browser, "#stalled li")
+    wanted = ["Before it nobody sent on port 1.", "All others have exited."], ["P1, step 7 waits to receive from port 1"]
+    count.test("nor among those who wait in a deadlock", said == wanted, said)
+    open_page(browser, CLOCK.replace("0 cancel 2\n0 recv 1\n2 cancel 0\n", "0 send 1 5\n"), work / "clock.html")
+    names = texts(browser, "#lanes .name")
+    count.test("a clock is known by its first step alone", names == ["P0", "P1", "clock"], names)
+
+
+BURST = "chanhub journal 1\nprocs 2\n0 make 100\n" + "".join(f"0 send 1 {n}\n" for n in range(100)) + "1 recv 1\n" * 90
+
+
+def check_burst(browser, count, work):
+    """Values that lie in a port for a block and more, so that one end is out of view; the last ten stay there."""
+    journal = picture.Journal(BURST.encode())
+    open_page(browser, BURST, work / "burst.html")
+
+    def test(first):
+        drawn, at = drawn_at(browser, journal, first, 40)
+        check_shapes(drawn, journal, *at)
+
+    for first in range(0, len(journal.lines) - 40, 30):
+        count.run(f"a burst, 40 steps from {first + 1} on", lambda: test(first))
+    partners = browser.value("page.journal.stepsOf(1, 101).map((step) => step.partner && step.partner.place)")
+    count.test("the other ends of values", partners == [*range(101, 191), *[None] * 10], partners)
+
+
+# ---- whether this test would notice
+
+# what is wrong in the data of a page: what stands there, and what is put there; the first place counts
+WRONG = {
+    "an arrow is left out": (r"g0@\d+", "D"),
+    "an arrow comes from an earlier step": (r"(?<=g0@)2(?=;)", "3"),
+    "a bar ends a step early": (r"(0s1:\d+;0s0;1:1)\n2r2;0g0@2;2:0;2s0;2:0", r"\1;1s0;2:0\n2r2;0g0@2;2:0"),
+    "a bar begins a step late": (r"(?<=;)2(?=s0)", "1"),
+    "a level is off by one": (r"(?<=;\d:)1(?=\n)", "2"),
+    "a level is not told": (r";1:1(?=\n)", ""),
+    "a stall is not told": (r";0S(?=;)", ";0x"),
+    "a guess is not told": (r";\d>\d", ""),
+    "a step is another process's": (r"(?m)^1(?=r)", "0"),
+    "a call waits behind a block since another step": (r"(?<=o)(\d+)", lambda found: str(int(found[1]) + 1)),
+    "a call does not wait behind a block": (r"o\d+", ""),
+    "a value was sent less in a block": (r"(?<=s)(\d+)(?=g)", lambda found: str(int(found[1]) - 1)),
+    "a value was received more in a block": (r"(?<=\dg)(\d+)(?=p|\n)", lambda found: str(int(found[1]) + 1)),
+}
+WORKERS = "chanhub journal 2\nprocs 4\n0 make 2\n0 make 0\n0 make 0\n3 recv 3\n" + "".join(
+    f"0 send 1 {n}\n1 recv 1\n1 send 2 {n}\n0 send 1 {n + 1}\n2 recv 2\n1 recv 1\n2 recv 2\n1 send 2 {n + 1}\n" for n in range(100, 130)) + "2 recv 1\n1 recv 1\n0 send 3 7\n3 recv 1\n0 recv 2\n"
+
+
+def check_notices(browser, count, work):
+    """Each of these wrong data makes the shapes of some window differ from those expected."""
+    path, text, journal = work / "wrong.html", page_of(WORKERS), picture.Journal(WORKERS.encode())
+    begin = text.index("<!--") + len("<!--")
+    end = text.index("-->", begin)
+
+    def is_right(data):
+        path.write_text(text[:begin] + data + text[end:])
+        browser.open(path)
+        try:
+            for first in 0, 40, 2 * BLOCK, 170, len(journal.lines) - 60:
+                drawn, at = drawn_at(browser, journal, first, 60)
+                check_shapes(drawn, journal, *at)
+        except AssertionError:
+            return False
+        return True
+
+    count.test("the right data are right", is_right(text[begin:end]))
+    for name, (old, new) in WRONG.items():
+        wrong = re.sub(old, new, text[begin:end], count=1)
+        count.test(f"it is noticed that {name}", wrong != text[begin:end] and not is_right(wrong))
+    del browser.errors[:]
+
+
+# ---- the data
+
+
+def data_of(text, window=None):
+    lines = []
+    page.Data(text.splitlines(), lines.append, window)
+    return "".join(lines)
+
+
+def some(rows):
+    """About 40 of them, and the last."""
+    return rows[:: len(rows) // 40 + 1] + rows[-1:]
+
+
+def is_trouble(end):
+    return end == "stalled" or end.startswith("fault") or end.endswith(" closed")
+
+
+def lane_of(journal, one):
+    return min(int(one.line.split()[0]), journal.procs)
+
+
+def blocks_of(count):
+    return [(first, min(count, first + BLOCK)) for first in range(0, count, BLOCK)]
+
+
+def counted(letters, numbers):
+    return "".join(f"{letter}{number}" for letter, number in zip(letters, numbers) if number)
+
+
+def sketch_of(journal, asked, first, until):
+    """The sketch of these steps, counted step by step."""
+    lanes = [[0] * 4 for _ in range(journal.procs + 1)]
+    for one in asked:
+        by, own = one.ended.by if one.ended else len(asked), lanes[lane_of(journal, one)]
+        own[0] += max(0, min(by, until) - max(one.place, first))
+        own[1] += first <= one.place < until
+        own[2] += first <= by < until and is_trouble(words_of(one))
+        own[3] += until - one.place if one.place < until <= by and one.place < by else 0
+    text = "~" + "".join(f"P{lane}" + counted("wato", own) for lane, own in enumerate(lanes) if any(own))
+    for port in sorted({*journal.moved["s"], *journal.moved["r"]}):
+        sent, received = ([by for _, by, _ in journal.moved[side][port]] for side in "sr")
+        steps = {by for by in [*sent, *received] if first <= by < until}
+        held = [sum(by <= step for by in sent) - sum(by <= step for by in received) for step in steps]
+        numbers = [max(held, default=0), *(sum(first <= by < until for by in way) for way in (sent, received))]
+        text += f"p{port}" + counted("msg", numbers) if steps else ""
+    return text
+
+
+def most_held(journal, port, first, until):
+    """The most that a port held after one of these steps, or before them."""
+    return max((level.count for level in journal.levels() if level.port == port and level.first < until and (level.until is None or level.until >= first)), default=0)
+
+
+def check_sketches(text, journal):
+    asked = journal.asked()
+    told, blocks = [line for line in data_of(text).splitlines() if line.startswith("~")], blocks_of(len(asked))
+    assert len(told) == len(blocks), f"so many sketches: {len(told)}"
+    for line, (first, until) in zip(told, blocks):
+        wanted = sketch_of(journal, asked, first, until)
+        assert line == wanted, f"{line} and not {wanted}"
+
+
+def check_data(browser, journal):
+    """What the page sums up: before each block, and of the whole."""
+    asked, count = journal.asked(), len(journal.lines)
+    tables, whole = ["waited", "asked", "troubles", "open", "sent", "got", "most"], ["rooms", "lives", "stalls", "waits", "asks"]
+    told = browser.value("Object.fromEntries(%s.map((name) => [name, [...page.journal[name]]]))" % json.dumps([*tables, *whole]))
+    lanes, width = journal.procs + 1, 1 + sum(words_of(one).startswith("made") for one in asked)
+    for at, until in some(list(enumerate([0, *(until for _, until in blocks_of(count))]))):
+        wanted = {name: [0] * lanes for name in tables[:3]} | {"open": [NEVER] * lanes}
+        for one in asked:
+            by, lane = one.ended.by if one.ended else count, lane_of(journal, one)
+            wanted["asked"][lane] += one.place < until
+            wanted["waited"][lane] += max(0, min(by, until) - one.place)
+            wanted["troubles"][lane] += by < until and is_trouble(words_of(one))
+            if one.place < until <= by and one.place < by:
+                wanted["open"][lane] = one.place
+        for name, side in (("sent", "s"), ("got", "r")):
+            wanted[name] = [sum(by < until for _, by, _ in journal.moved[side][port]) for port in range(width)]
+        for name, counts in wanted.items():
+            assert told[name][at * len(counts) : (at + 1) * len(counts)] == counts, f"{name} before step {until + 1}: {counts}"
+    held_in = {level.port for level in journal.levels()}
+    for port in held_in:
+        for at, (first, until) in some(list(enumerate(blocks_of(count)))):
+            most = most_held(journal, port, first, until)
+            assert told["most"][(at + 1) * width + port] == most, f"port {port} from step {first + 1} on: {most}"
+    assert told["rooms"] == [journal.room[port] if port in held_in else 0 for port in range(1, width)], told["rooms"]
+    lives = [[[life["begun"], life["exited"]] for life in own] for own in told["lives"]]
+    assert lives[: journal.procs] == [journal.lives[pid] for pid in range(journal.procs)], lives
+    assert told["stalls"] == sorted({by for by, _, _ in journal.stalls}), told["stalls"]
+    waits, asks = collections.Counter(), collections.Counter(lane_of(journal, one) for one in asked)
+    for one in asked:
+        waits[lane_of(journal, one)] += (one.ended.by if one.ended else count - 1) - one.place
+    shown = range(lanes if asks[journal.procs] else journal.procs)
+    assert told["waits"] == [waits[lane] for lane in shown], told["waits"]
+    assert told["asks"] == [asks[lane] for lane in shown], told["asks"]
+
+
+def check_overview(text, journal):
+    """The bars of tools/overview.py, counted step by step."""
+    data, asked = overview.Overview(text.splitlines()), journal.asked()
+    drawn = "\n".join(overview.drawing(data))
+    blocks, x = blocks_of(len(asked)), lambda place: overview.LEFT + overview.WIDTH * place / len(asked)
+    for kind, count in ("waited", lambda one, first, until: max(0, min(one.ended.by if one.ended else len(asked), until) - max(one.place, first))), (
+            "asked", lambda one, first, until: first <= one.place < until):
+        paths = re.findall(f'<path class="{kind}" d="([^"]*)">', drawn)
+        assert len(paths) == journal.procs, f"{len(paths)} lanes"
+        for pid, path in enumerate(paths):
+            own, floor = [one for one in asked if int(one.line.split()[0]) == pid], overview.TOP + (pid + 1) * overview.LANE
+            shares = [(first, until, sum(count(one, first, until) for one in own) / (until - first)) for first, until in blocks]
+            wanted = [(x(first), floor - share * (overview.LANE - 4), x(until)) for first, until, share in shares if share]
+            agree(f"{kind} bar of P{pid}", [tuple(map(float, bar)) for bar in re.findall(r"M([\d.]+),\d+V([\d.]+)H([\d.]+)V", path)], wanted, 0.06)
+    ports = sorted({level.port for level in journal.levels()})
+    paths = re.findall('<path class="held" d="([^"]*)">', drawn)
+    assert len(paths) == len(ports), f"{len(paths)} ports"
+    for row, (port, path) in enumerate(zip(ports, paths), 1):
+        floor, shares = overview.TOP + journal.procs * overview.LANE + row * overview.STRIP, [most_held(journal, port, *block) / journal.room[port] for block in blocks]
+        wanted = [(x(first), floor - share * (overview.STRIP - 8), x(until)) for (first, until), share in zip(blocks, shares) if share]
+        agree(f"bar of port {port}", [tuple(map(float, bar)) for bar in re.findall(r"M([\d.]+),\d+V([\d.]+)H([\d.]+)V", path)], wanted, 0.06)
+    stalls = [float(at) for at in re.findall(r'class="stall" d="M([\d.]+),', drawn)]
+    agree("stall", [(at,) for at in stalls], [(x(by),) for by in sorted({by for by, _, _ in journal.stalls})], 0.06)
+
+
+def check_bytes(count, work):
+    subprocess.run([sys.executable, str(ROOT / "benches" / "make_journals.py"), str(work), "10000"], check=True, stdout=subprocess.DEVNULL)
+    for name in "hand_overs", "bursts", "selects", "bytes":
+        text = (work / name).read_text()
+        size = len(data_of(text)) / (text.count("\n") - 2)
+        count.test(f"{name} has {size:.1f} bytes a step", size <= MOST_BYTES)
+
+
+# ---- search, following, links, mouse and keys
+
+
+def found(browser, *several):
+    """What each of these words finds, one after the other."""
+    return browser.value(f"""(async () => {{
+        const told = [];
+        for (const words of {json.dumps(several)}) {{
+            await page.find(words);
+            told.push(page.found);
+        }}
+        return told;
+    }})()""")
+
+
+def check_search(browser, journal):
+    asked = journal.asked()
+    port_of = lambda one: {int(port) for _, port in one.cases} | ({int(one.line.split()[2])} if one.line.split()[1] in ("close", "reopen") else set()) | ({int(words_of(one)[5:])} if words_of(one).startswith("made") else set())
+    values = [value_of(one) for one in asked if value_of(one)]
+    value = values[len(values) // 2] if values else "17"
+    stalling = {by for by, _, _ in journal.stalls}
+    queries = {
+        "P1": lambda one: int(one.line.split()[0]) == 1,
+        "port 2": lambda one: 2 in port_of(one),
+        "=" + value: lambda one: value_of(one) == value,
+        "stalled": lambda one: words_of(one) == "stalled",
+        "deadlocks": lambda one: one.place in stalling,
+        "P1 before 60": lambda one: int(one.line.split()[0]) == 1 and one.place < 59,
+        "cancelled": lambda one: words_of(one) == "cancelled",
+        "step 60": lambda one: one.place == 59,
+        "waited": lambda one: one.ended is None or one.ended.by > one.place,
+        "waited >20": lambda one: (one.ended.by if one.ended else len(asked) - 1) - one.place > 20,
+        "to the end": lambda one: one.ended is None,
+        "P0 port 1": lambda one: int(one.line.split()[0]) == 0 and 1 in port_of(one),
+        "select": lambda one: one.line.split()[1] == "select",
+    }
+    for (words, test), told in zip(queries.items(), found(browser, *queries, "")):
+        wanted = [one.place for one in asked if is_told(journal, one.place) and test(one)]
+        assert told == wanted, f"{words}: {told[:9]} and not {wanted[:9]}"
+
+
+def check_ways(browser, journal):
+    """The longest ways, and some others."""
+    wanted = ways(journal)
+    places = sorted(wanted, key=lambda place: (-len(wanted[place]), place))
+    places = places[:3] + places[3 :: len(places) // 4 + 1]
+    for place, told in zip(places, found(browser, *(f"way {place + 1}" for place in places))):
+        way = sorted(wanted[place])
+        assert sorted(told) == way, f"the way of step {place + 1}: {told[:9]} and not {way[:9]}"
+
+
+def check_panel(browser, journal, draw):
+    """What the panel says of stalls, of the steps before one, and of the steps of its process; and the longest waits."""
+    asked, stalls = journal.asked(), sorted({by for by, _, _ in journal.stalls})
+    rows, cells = list(waits_told(journal))[:5], texts(browser, "#longest td")
+    assert cells == sum(rows, []), f"{cells} and not {rows}"
+    for place in [*stalls[:2], *stalls[-2:], *(draw(len(asked)) for _ in range(6))]:
+        browser.value(f"page.choose({place})")
+        for id, lines in ("cause", cause_lines(journal, place)), ("full", held_lines(journal, place)), ("stalled", stalled_lines(journal, place)):
+            told, wanted = texts(browser, f"#{id} li"), [line.strip() for line in lines]
+            assert told == wanted, f"{id} at step {place + 1}: {told} and not {wanted}"
+        told, wanted = texts(browser, "#last td"), list(last_cells(journal, place))
+        assert told == wanted, f"who was there last at step {place + 1}: {told} and not {wanted}"
+        wanted = [f"{one.place + 1} {one.line} {answer_of(one) if one.ended and one.ended.by < place else 'waits'}"
+            for one in asked[max(0, place - 6) : place]]
+        told = texts(browser, "#before li")
+        assert told == wanted, f"before step {place + 1}: {told} and not {wanted}"
+        before, behind = (f"step {at + 1}" if at is not None else "none" for at in own_steps(journal, place))
+        told = texts(browser, "#process")
+        wanted = [f"P{pid_at(journal, place)}: {before} before, {behind} after"]
+        assert told == wanted, f"steps of the process of step {place + 1}: {told} and not {wanted}"
+    browser.value("page.choose(null)")
+
+
+# locks: a port with one place is free while it is empty. Process 2 takes the second one first, the others the first one
+LOCKS = "chanhub journal 2\nprocs 3\n0 make 1\n0 make 1\n0 make 5\n" + "".join(
+    f"{pid} send 1 {pid}\n{pid} send 2 {pid}\n{pid} recv 2\n{pid} recv 1\n" for pid in (0, 1, 2)) + "".join(
+    f"0 send 3 {n}\n" for n in range(5)) + (
+    "2 send 2 2\n0 send 1 0\n1 send 1 1\n2 send 1 2\n0 send 2 0\n1 exit\n2 send 3 9\n0 send 3 8\n")
+
+
+def check_locks(browser, count, work):
+    """Who stands in whose way, worked out by hand: 0 has lock 1 and waits for lock 2, which 2 has, and 2 and 1 wait for lock 1.
+    Then 2 and 0 wait to send on port 3, which holds what 0 sent before: 0 does not wait for itself, nor 2 for 0, which does so too."""
+    journal = picture.Journal(LOCKS.encode())
+    open_page(browser, LOCKS, work / "locks.html")
+    first, second = sorted({by for by, _, _ in journal.stalls})
+    browser.value(f"page.choose({first}); page.paint()")
+    full, stalled = texts(browser, "#full li"), texts(browser, "#stalled li")
+    count.test("what full ports hold",
+        full == ["port 1 holds 1 value: 0, sent by P0 at step 22", "port 2 holds 1 value: 2, sent by P2 at step 21"], full)
+    wanted = [f"P{pid}, step {step} waits to send {pid} on port {port}; perhaps for P{other}"
+        for pid, step, port, other in ((1, 23, 1, 0), (2, 24, 1, 0), (0, 25, 2, 2))]
+    count.test("guesses by what they hold", stalled == wanted, stalled)
+    told = texts(browser, "#stall details")
+    count.test("how it is guessed is told", len(told) == 1 and "is a guess" in told[0]
+        and browser.value("document.querySelector('#stall summary').checkVisibility()"), told)
+    drawn = Drawn(browser, journal.procs)
+    arcs = {(drawn.lane(shape.way[1]), drawn.lane(shape.way[-1])) for shape in drawn.kind("guess")
+        if abs(shape.way[0] - drawn.x(first)) < drawn.dots}
+    count.test("arcs are these guesses", arcs == {(0, 2), (1, 0), (2, 0)}, arcs)
+    browser.value(f"page.choose({second})")
+    full, stalled = texts(browser, "#full li"), texts(browser, "#stalled li")
+    wanted = "port 3 holds 5 values: " + "".join(f"{n}, sent by P0 at step {16 + n}; " for n in range(4)) + ".."
+    count.test("a port that holds many values", full == [wanted], full)
+    count.test("no guess names who does the same",
+        stalled == ["P2, step 27 waits to send 9 on port 3", "P0, step 28 waits to send 8 on port 3"], stalled)
+    browser.value("page.choose(3)")
+    count.test("of a step that stalls nobody no deadlock is told",
+        not browser.value("document.getElementById('stall').checkVisibility()"))
+
+
+# who waits to send its result waits for who takes results, and not for another one whose result lies there
+RESULTS = "chanhub journal 2\nprocs 3\n0 make 1\n0 make 0\n0 make 0\n" + (
+    "1 send 1 11\n0 recv 1\n1 send 1 12\n1 recv 2\n2 send 1 21\n0 recv 3\n")
+
+
+def check_results(browser, count, work):
+    open_page(browser, RESULTS, work / "results.html")
+    browser.value("page.choose(8)")
+    full, stalled = texts(browser, "#full li"), texts(browser, "#stalled li")
+    count.test("a port of results holds one", full == ["port 1 holds 1 value: 12, sent by P1 at step 6"], full)
+    wanted = ["P1, step 7 waits to receive from port 2", "P2, step 8 waits to send 21 on port 1; perhaps for P0",
+        "P0, step 9 waits to receive from port 3"]
+    count.test("results wait for who takes them", stalled == wanted, stalled)
+
+
+# process 2 passes 7 and then 7 again on, with a 5 between; process 1 gets a 7 that is another one, and sends it after it got an 8
+SEVENS = "chanhub journal 2\nprocs 4\n" + "0 make 9\n" * 3 + (
+    "0 send 1 7\n2 recv 1\n2 send 2 5\n2 send 2 7\n2 send 3 7\n3 recv 3\n"
+    "1 recv 2\n1 recv 2\n0 send 2 8\n1 recv 2\n1 send 3 7\n3 recv 3\n3 send 1 7\n")
+
+
+def check_sevens(browser, count, work):
+    open_page(browser, SEVENS, work / "sevens.html")
+    told = found(browser, "way 4", "way 11", "way 14", "=7", "way 6", "way 1", "way 17", "way 0")
+    own, other = [3, 4, 6, 7, 8, 10], [13, 14, 15]
+    told, sevens, five, none = told[:3], told[3], told[4], sum(told[5:], [])
+    count.test("a value that is sent twice has both ways", [sorted(way) for way in told] == [own, own, other], told)
+    count.test("a value's way goes from its sender on", told[0][0] == 3, told[0])
+    count.test("all equal values are found", sevens == sorted(own + other), sevens)
+    count.test("another value has its own way", five == [5, 9], five)
+    count.test("who moves no value has no way", none == [], none)
+    browser.value("page.find('=7')")
+    browser.settle()
+    heading, moves = texts(browser, "#way"), texts(browser, "#moves li")
+    count.test("equal values are not called a way", heading == ["Moves of 7: 9 of 9 steps"] and len(moves) == 5, (heading, moves))
+    count.test("a value that stays", moves[-1] == "port 1: sent by P3, step 16, stays there", moves)
+
+
+def check_left(browser, count, work):
+    """Of the ports where a call waits to send, all who received from one have left, which is told of it alone."""
+    open_page(browser, picture.LEFT, work / "left.html")
+    browser.value("page.choose(page.journal.stalls[0])")
+    told, wanted = texts(browser, "#last td"), ["1", "P0, step 14", "P1, step 6; all who received there have left",
+        "2", "P0, step 15", "P2, step 10", "3", "nobody", "nobody", "4", "P0, step 11", "P1, step 12"]
+    count.test("all who received there have left", told == wanted, told)
+
+
+def check_deadlocks(browser, count, work):
+    """Of many deadlocks some are left out, which is told. Each has a heading, even if no cause of it is known."""
+    for text, cause in ("0 make 0\n0 recv 1\n1 exit\n", ["Before it nobody sent on port 1.", "All others have exited."]), (
+            "0 make 1\n0 send 1 7\n1 recv 1\n0 recv 1\n1 recv 1\n", []):
+        open_page(browser, "chanhub journal 1\nprocs 2\n" + text, work / "deadlocks.html")
+        browser.value("page.choose(page.journal.stalls[0])")
+        told = texts(browser, "#cause li")
+        count.test("a deadlock with its cause", told == cause and browser.value("document.querySelector('#stall > h3').checkVisibility()"), told)
+    for total in 5, 6, 9:
+        open_page(browser, "chanhub journal 1\nprocs 1\n0 make 0\n" + "0 recv 1\n" * total, work / "deadlocks.html")
+        line = lambda step: f"step {step} stalls P0"
+        wanted = [line(2), *([f"and {total - 5} more, then"] if total > 5 else []),
+            *(line(total + 1 - at) for at in (3, 2, 1, 0))]
+        told = texts(browser, "#stalls li")
+        count.test(f"{total} deadlocks", told == wanted, told)
+    browser.value("document.querySelector('#stalls li:nth-child(2) a').click()")
+    browser.settle()
+    count.test("those left out are found", browser.value("page.found.length") == 9, browser.value("page.found"))
+
+
+def check_waits(browser, count, path):
+    """The longest waits fit the panel; all that waited as long as the last are found."""
+    told = list(waits_told(picture.Journal(PIPE.encode())))
+    more = sum(wait[0] == told[4][0] for wait in told[5:])
+    for width in 1400, 1000, 700:
+        browser.ask("Emulation.setDeviceMetricsOverride", width=width, height=HEIGHT, deviceScaleFactor=1, mobile=False)
+        browser.open(path)
+        elements = "[...document.querySelectorAll('#panel, #panel table, #panel pre')]"
+        wide = browser.value(elements + ".map((one) => one.scrollWidth - one.clientWidth)")
+        count.test(f"nothing in the panel is cut off, {width} wide", max(wide) <= 0, wide)
+    browser.ask("Emulation.setDeviceMetricsOverride", width=WIDTH, height=HEIGHT, deviceScaleFactor=1, mobile=False)
+    browser.open(path)
+    calls = len(re.findall(r"^\d+ (?:send|recv|select) ", PIPE, re.M))
+    lines = browser.value("document.getElementById('end').textContent.split('\\n')")
+    count.test("how many waited is told", f"{len(told)} of {calls} calls waited" in lines, lines)
+    ties = texts(browser, "#ties")
+    count.test("more may have waited as long as the last", more > 9 and ties == [f"Find all that waited {told[4][0]}"], (ties, more))
+    browser.value("document.querySelector('#ties a').click()")
+    browser.settle()
+    browser.settle()
+    waited = sorted(int(re.search(r"step (\d+)", wait[1])[1]) - 1 for wait in told if wait[0] == told[4][0])
+    count.test("these waits are found", browser.value("page.found") == waited, browser.value("page.found"))
+
+
+PIPE = "chanhub journal 2\nprocs 4\n0 make 0\n0 make 2\n0 make 0\n" + "".join(
+    f"1 recv 1\n0 send 1 {n}\n1 send 2 {n}\n2 recv 2\n2 send 3 {n}\n3 recv 3\n" for n in range(100, 140)) + "0 recv 3\n1 recv 1\n2 send 3 7\n0 exit\n"
+STEPS_OF = {n: 3 + 6 * (n - 100) for n in range(100, 140)}  # the place of the first step of each value
+
+
+def texts(browser, of):
+    """What is told in each of these elements of the panel, with single spaces."""
+    elements = f"[...document.querySelectorAll({json.dumps(of)})]"
+    return browser.value(elements + ".map((one) => one.textContent.trim().replace(/\\s+/g, ' '))")
+
+
+def title(browser):
+    return browser.value("[...document.querySelectorAll('#panel h2')].find((one) => one.checkVisibility()).textContent")
+
+
+def at(browser, step, lane):
+    """Where on the page a step of a process stands."""
+    return browser.value(f"""(() => {{ const at = document.getElementById("lanes").getBoundingClientRect();
+        return [at.x + page.view.x({step}), at.y + page.view.place.get({lane}).y]; }})()""")
+
+
+def check_follow(browser, count, path):
+    """The value 120 goes through three ports: it is followed by keys, by an arrow that is clicked, and by a link in the panel."""
+    first = STEPS_OF[120]
+    ways = list(range(first, first + 6))
+    stages = [f"port 1: sent by P0, step {first + 2}, got by P1, step {first + 1}, waiting until {first + 2}",
+        f"port 2: sent by P1, step {first + 3}, got by P2, step {first + 4}; 1 step in the port",
+        f"port 3: sent by P2, step {first + 5}, waiting until {first + 6}, got by P3, step {first + 6}"]
+    in_order = [first + at for at in (1, 0, 2, 3, 4, 5)]
+    browser.open(path, f"#step={first + 3}")
+    browser.key("f")
+    count.test("f follows a value, each send before its receive", browser.value("page.found") == in_order,
+        browser.value("page.found"))
+    count.test("the step that is followed stays chosen", title(browser) == f"Step {first + 3} of P1", title(browser))
+    told = texts(browser, "#moves li")
+    count.test("the stages of a value are told in order", told == stages, told)
+    heading = browser.value("document.getElementById('way').textContent")
+    count.test("the way has a name", heading == "The way of 120: 6 of 6 steps", heading)
+    browser.key("n")
+    count.test("the next stage", title(browser) == f"Step {first + 4} of P2", title(browser))
+    browser.key("p")
+    browser.key("p")
+    count.test("the stages before", title(browser) == f"Step {first + 1} of P1", title(browser))
+    clear = "[...document.querySelectorAll('#lanes .box')].filter((box) => getComputedStyle(box).opacity === '1')"
+    pale = browser.value(clear + ".map((box) => Number(box.dataset.link.slice(5)) - 1)")
+    count.test("all else is paler", sorted(pale) == ways, pale)
+    own = texts(browser, "#moves .fired")
+    count.test("the chosen step's move is marked", own == stages[:1], own)
+    browser.key("k")
+    left = browser.value(f"[{clear}.length === document.querySelectorAll('#lanes .box').length, page.words]")
+    told = texts(browser, "#moves li")
+    count.test("a step that is not on the way is not mixed with it", (left, told) == ([True, f"way {first + 3}"], []), (left, told))
+    browser.key("j")
+    browser.key("f")
+    ended = browser.value("[page.words, page.found.length, document.getElementById('find').value]"), texts(browser, "#moves li")
+    count.test("f ends the following", ended == (["", 0, ""], []), ended)
+    browser.key("Escape")
+    browser.value(f"page.view.show({first - 4}, 14); page.draw()")
+    browser.settle()
+    (x, y), (toX, toY) = at(browser, first + 5, 2), at(browser, first + 5, 3)
+    browser.mouse((x + toX) / 2, (y + toY) / 2, "mouseMoved", "mousePressed", "mouseReleased")
+    browser.settle()
+    count.test("a click on an arrow follows its value", browser.value("page.found") == in_order, browser.value("page.found"))
+    browser.open(path, f"#step={first + 3}")
+    browser.value("[...document.querySelectorAll('#step a')].find((one) => one.textContent === 'Follow it').click()")
+    browser.settle()
+    count.test("a link follows its value", browser.value("page.found") == in_order, browser.value("page.found"))
+
+
+def check_mouse(browser, count, path):
+    first = STEPS_OF[110]
+    browser.open(path)
+    browser.value(f"page.view.show({first - 4}, 14); page.draw()")
+    browser.settle()
+    browser.mouse(*at(browser, first + 2, 1), "mouseMoved", "mousePressed", "mouseReleased")
+    count.test("a click on a box chooses it", title(browser) == f"Step {first + 3} of P1", title(browser))
+    told = browser.value(f"document.querySelector('.box[data-link=\"step={first + 3}\"] title').textContent")
+    count.test("hovering tells the journal's line", told == f"step {first + 3}: 1 send 2 110\nsent", told)
+    browser.mouse(*at(browser, first + 0.6, 1), "mouseMoved", "mousePressed", "mouseReleased")
+    count.test("a click on a bar goes to who ended it", title(browser) == f"Step {first + 2} of P0", title(browser))
+    browser.mouse(*at(browser, first + 2, 3), "mouseMoved", "mousePressed")
+    browser.ask("Input.dispatchMouseEvent", type="mouseMoved", x=at(browser, first + 2, 3)[0] - 200, y=at(browser, first + 2, 3)[1], button="left", buttons=1)
+    browser.settle()
+    browser.ask("Input.dispatchMouseEvent", type="mouseReleased", x=200, y=300, button="left", clickCount=1)
+    count.test("a drag moves the window", browser.value("page.view.first") > first - 3, browser.value("page.view.first"))
+    steps = browser.value("page.view.steps")
+    browser.ask("Input.dispatchMouseEvent", type="mouseWheel", x=400, y=200, deltaX=0, deltaY=-200)
+    browser.settle()
+    count.test("the wheel zooms", browser.value("page.view.steps") < steps or steps < 20, browser.value("page.view.steps"))
+    browser.ask("Input.dispatchMouseEvent", type="mouseWheel", x=400, y=200, deltaX=0, deltaY=2000)
+    browser.settle()
+    count.test("and back", browser.value("page.view.steps") > steps, browser.value("page.view.steps"))
+    levels = [level for level in picture.Journal(PIPE.encode()).levels() if level.port == 2]
+    most = next(level.first for level in levels if level.count == max(level.count for level in levels))
+    browser.mouse(*browser.value("(({ x, y }) => [x + 9, y + 6])(document.querySelector('[data-strip=\"2\"]').getBoundingClientRect())"),
+        "mouseMoved", "mousePressed", "mouseReleased")
+    told = title(browser)
+    count.test("a click on a port's name goes where it first held the most", told.startswith(f"Step {most + 1} of "), (told, most))
+    x, y = browser.value("(({ x, y, width }) => [x + width * 0.75, y + 30])(document.getElementById('strip').getBoundingClientRect())")
+    browser.value("page.view.show(0, 20)")
+    browser.mouse(x, y, "mouseMoved", "mousePressed", "mouseReleased")
+    middle = browser.value("(page.view.first + page.view.steps / 2) / page.journal.steps")
+    count.test("a click on the strip goes there", abs(middle - 0.75) < 0.02, middle)
+    browser.key("0")
+    browser.mouse(x, y, "mouseMoved", "mousePressed", "mouseReleased")
+    near = browser.value("[page.view.steps, (page.view.first + page.view.steps / 2) / page.journal.steps]")
+    count.test("and near, if all was in view", abs(near[0] - 60) < 1 and abs(near[1] - 0.75) < 0.02, near)
+
+
+def check_lanes(browser, count, path):
+    """Processes folded, hidden and ordered, and ports hidden, by the panel's tables."""
+    browser.open(path)
+    names = lambda: browser.value("[...document.querySelectorAll('#lanes .name')].filter((one) => one.textContent).sort((a, b) => a.getAttribute('y') - b.getAttribute('y')).map((one) => one.textContent)")
+
+    def choose(what, choice):
+        browser.value(f"(({{ target }}) => {{ target.value = '{choice}'; target.dispatchEvent(new Event('change', {{ bubbles: true }})); }})({{ target: document.querySelector('{what}') }})")
+        browser.settle()
+
+    count.test("all processes and the port with room", names() == ["P0", "P1", "P2", "P3", "port 2"], names())
+    choose('[data-process="0"]', "hidden")
+    count.test("a hidden process has no lane", names() == ["P1", "P2", "P3", "port 2"], names())
+    choose('[data-process="2"]', "folded")
+    count.test("a folded process has no name", names() == ["P1", "P3", "port 2"], names())
+    choose('[data-process="3"]', "on top")
+    count.test("a process on top", names() == ["P3", "P1", "port 2"], names())
+    choose('[data-process="all"]', "open")
+    choose("#order", "by time waited")
+    asked = picture.Journal(PIPE.encode()).asked()
+    waited = collections.Counter()
+    for one in asked:
+        waited[int(one.line.split()[0])] += (one.ended.by if one.ended else len(asked) - 1) - one.place
+    wanted = [f"P{pid}" for pid in sorted(range(4), key=lambda pid: (-waited[pid], pid))]
+    count.test("processes by time waited", names()[:4] == wanted, (names(), waited))
+    rows = texts(browser, "#processes td:first-child")
+    count.test("the table has this order too", rows == wanted != sorted(wanted), rows)
+    choose("#order", "by number")
+    count.test("the table by number", texts(browser, "#processes td:first-child") == ["P0", "P1", "P2", "P3"])
+    browser.value("document.querySelector('[data-port]').click()")
+    browser.settle()
+    count.test("a hidden port has no strip", names() == ["P0", "P1", "P2", "P3"], names())
+    told = texts(browser, "#empty label")
+    count.test("ports that never held a value are told", told == ["port 1", "port 3"], told)
+    browser.value("document.querySelector('[data-port=\"3\"]').click()")
+    browser.settle()
+    count.test("and can be shown", names() == ["P0", "P1", "P2", "P3", "port 3"], names())
+
+
+def check_keys(browser, count, path):
+    browser.open(path)
+    total = browser.value("page.journal.steps")
+    shown = lambda: (round(browser.value("page.view.first"), 3), round(browser.value("page.view.steps"), 3))
+    browser.key("+")
+    count.test("+ zooms", abs(shown()[1] - total * 0.7) < 0.01, shown())
+    browser.key("Home")
+    count.test("Home", shown()[0] == 0, shown())
+    browser.key("ArrowRight")
+    count.test("the right arrow pans", abs(shown()[0] - total * 0.7 / 8) < 0.01, shown())
+    browser.key("End")
+    count.test("End", abs(sum(shown()) - total) < 0.01, shown())
+    browser.key("0")
+    count.test("0 shows all", shown() == (0, total), shown())
+    browser.key("/")
+    browser.ask("Input.insertText", text="=120")
+    browser.key("Enter")
+    count.test("a search by keys", browser.value("document.getElementById('count').textContent") == "1 of 6", browser.value("document.getElementById('count').textContent"))
+    at_count = lambda: browser.value("document.getElementById('count').textContent")
+    count.test("the cursor has left the field", browser.value("document.activeElement.id") == "scroll",
+        browser.value("document.activeElement.id"))
+    browser.key("Enter")
+    count.test("Enter again goes to the next one", at_count() == "2 of 6"
+        and title(browser) == f"Step {STEPS_OF[120] + 2} of P0", (at_count(), title(browser)))
+    browser.key(">")
+    count.test("> goes to the last one", at_count() == "6 of 6" and title(browser) == f"Step {STEPS_OF[120] + 6} of P3",
+        (at_count(), title(browser)))
+    browser.key("<")
+    count.test("< goes to the first one", at_count() == "1 of 6" and title(browser) == f"Step {STEPS_OF[120] + 1} of P1",
+        (at_count(), title(browser)))
+    browser.key("/")
+    marked = browser.value("(({ value, selectionStart, selectionEnd }) => value.slice(selectionStart, selectionEnd))(document.activeElement)")
+    count.test("/ selects what was typed", marked == "=120", marked)
+    browser.key("Enter")
+    count.test("Enter in the field, too, if it says the same", at_count() == "2 of 6", at_count())
+    browser.key("p")
+    browser.key("n")
+    count.test("n goes to the next one found", title(browser) == f"Step {STEPS_OF[120] + 2} of P0", title(browser))
+    browser.key("j")
+    count.test("j goes to the next step", title(browser) == f"Step {STEPS_OF[120] + 3} of P1", title(browser))
+    browser.key("p")
+    browser.key("k")
+    browser.key("j")
+    browser.key("p")
+    count.test("p goes to the one found before", title(browser) == f"Step {STEPS_OF[120] + 1} of P1", title(browser))
+    browser.key("w")
+    count.test("w goes to who ended the wait", title(browser) == f"Step {STEPS_OF[120] + 2} of P0", title(browser))
+    browser.key("g")
+    count.test("g goes to the other end of the value", title(browser) == f"Step {STEPS_OF[120] + 1} of P1", title(browser))
+    own = [at for at, line in enumerate(PIPE.splitlines()[2:]) if line.startswith("1 ") and at > STEPS_OF[120]]
+    browser.key("J")
+    count.test("J goes to the next step of the process", title(browser) == f"Step {own[0] + 1} of P1", title(browser))
+    browser.key("J")
+    browser.key("K")
+    browser.key("K")
+    count.test("K goes back", title(browser) == f"Step {STEPS_OF[120] + 1} of P1", title(browser))
+    check_find(browser, count)
+    browser.key("?")
+    count.test("? shows help", browser.value("document.getElementById('help').open"))
+    browser.value("document.getElementById('help').close()")
+    browser.key("Escape")
+    count.test("Escape shows the whole", title(browser) == "The whole", title(browser))
+    count.test("what is chosen is told to a screen reader", browser.value("document.getElementById('step').ariaLive") == "polite" and browser.value("[...document.querySelectorAll('[role=img]')].every((one) => one.ariaLabel)"))
+    nameless = browser.value("""[...document.querySelectorAll("button, input, select")].filter((one) => !(one.ariaLabel || one.textContent.trim() && one.tagName === "BUTTON" || one.closest("label"))).length""")
+    count.test("each button has a name", nameless == 0, nameless)
+
+
+def check_find(browser, count):
+    """Where a search begins, and what it says where it finds nothing."""
+    def look(words):
+        browser.key("/")
+        browser.value("document.getElementById('find').select()")
+        browser.ask("Input.insertText", text=words)
+        browser.key("Enter")
+        browser.settle()
+        return browser.value("document.getElementById('count').textContent"), title(browser)
+
+    first = STEPS_OF[120]
+    steps = [at + 1 for at, line in enumerate(PIPE.splitlines()[2:]) if line.startswith("3 ")]
+    place = next(at for at, step in enumerate(steps) if step > first)
+    browser.value(f"page.choose({first})")
+    told = look("P3")
+    count.test("a search begins at the chosen step",
+        told == (f"{place + 1} of {len(steps)}, from step {first + 1} on", f"Step {steps[place]} of P3"), told)
+    told = look("first P3")
+    count.test("or at the first step", told == (f"1 of {len(steps)}", f"Step {steps[0]} of P3"), told)
+    told = look("P3 last")
+    count.test("or at the last one", told == (f"{len(steps)} of {len(steps)}", f"Step {steps[-1]} of P3"), told)
+    browser.value("page.choose(page.journal.steps - 1)")
+    told = look("=100")
+    count.test("it says that nothing is behind",
+        told == (f"1 of 6, none from step {PIPE.count(chr(10)) - 2} on", f"Step {STEPS_OF[100] + 1} of P1"), told)
+    told = look("=99")
+    panel = browser.value("((none) => none.checkVisibility() && none.textContent)(document.getElementById('none'))")
+    count.test("the panel says that nothing is found", told[0] == "none"
+        and panel == "No value 99 moved. Find knows words as P3, port 2, =17, stalled, step 60; Help has all. "
+        "What was chosen stays:", (told, panel))
+    browser.key("Escape")
+    count.test("Escape ends a search", browser.value("[page.words, document.getElementById('find').value]") == ["", ""])
+    count.test("Escape works after a search", title(browser) == "The whole", title(browser))
+    look("=120")
+    count.test("and then it says so no more", not browser.value("document.getElementById('none').checkVisibility()"))
+    browser.value(f"page.choose({first})")
+
+
+def check_links(browser, count, path):
+    first = STEPS_OF[120]
+    browser.open(path, f"#step={first + 2}&find=P0")
+    count.test("a link chooses its step", title(browser) == f"Step {first + 2} of P0", title(browser))
+    count.test("a link finds", browser.value("page.found.length") == PIPE.count("\n0 "), browser.value("page.found.length"))
+    browser.key("j")
+    browser.value("new Promise((done) => setTimeout(done, 300))")
+    parts = urllib.parse.parse_qs(browser.value("location.hash")[1:])
+    count.test("the address follows", parts.get("step") == [str(first + 3)] and parts.get("find") == ["P0"], parts)
+    browser.open(path, f"#step={first + 2}&find=P0&from={first - 90}&to={first + 10}")
+    view = browser.value("[page.view.first, page.view.steps]")
+    count.test("an address keeps what is in view", title(browser) == f"Step {first + 2} of P0" and view == [first - 91, 101], view)
+    browser.value("location.hash = '#step=10&from=5&to=25'")
+    browser.settle()
+    count.test("an address that is changed is followed", title(browser).startswith("Step 10 ") and browser.value("[page.view.first, page.view.steps]") == [4, 21], browser.value("[page.view.first, page.view.steps]"))
+
+
+# ---- bytes, contrasts, a million
+
+NASTY = ["</script>", "<!--<script>", "<img src=x onerror=throw(1)>", "&amp;&lt;", "\"'`\\u0041", "${1}\\n", "a\u2028b", "\u202eabc", "é∷ℕ", "\x00", " ", "x\ufffdy", "]]>"]
+
+
+def check_nasty(browser, count, work):
+    values = ["#" + text.encode().hex() for text in NASTY] + ["#ff00", "#", "#c328", "18446744073709551615"]
+    text = "chanhub journal 2\nprocs 2\n0 make 0\n" + "".join(f"0 send 1 {value}\n1 recv 1\n" for value in values)
+    name = "a <b> & 'c' %41#"
+    open_page(browser, text, work / f"{name}.html")
+    count.test("the page's name", browser.value("document.title") == re.sub(r"\W", "_", name), browser.value("document.title"))
+    for place, value in enumerate(values):
+        for step in 1 + 2 * place, 2 + 2 * place:
+            browser.value(f"page.choose({step}); page.paint()")
+            told = browser.value("[...document.querySelectorAll('#step td b')].at(-1).textContent")
+            count.test(f"value {value} at step {step + 1}", told == readable(value), told)
+            line = browser.value("document.querySelector('#step code').textContent")
+            count.test(f"line of step {step + 1}", line == text.splitlines()[2 + step], line)
+        count.test(f"search for {value}", found(browser, "=" + value) == [[1 + 2 * place, 2 + 2 * place]])
+    count.test("nothing of a value is taken for HTML", browser.value("document.querySelectorAll('#step img, #step script, h1 b').length") == 0)
+    count.test("a part of bytes is found", found(browser, "=</script>") == [[1, 2]])
+
+
+CONTRASTS = """(() => {
+    const channel = (part) => (part /= 255) <= 0.03928 ? part / 12.92 : ((part + 0.055) / 1.055) ** 2.4;
+    const colour = (text) => text.match(/[\\d.]+/g).map(Number), light = ([r, g, b]) => 0.2126 * channel(r) + 0.7152 * channel(g) + 0.0722 * channel(b);
+    const contrast = (one, other) => { const [a, b] = [light(colour(one)), light(colour(other))].sort((x, y) => y - x); return (a + 0.05) / (b + 0.05); };
+    const c = PROBE, faults = [];
+    const least = (name, one, other, bound) => { if (contrast(one, other) < bound) faults.push(`${name} ${contrast(one, other).toFixed(2)}`); };
+    for (const name of ["rule", "edge", "trouble", "on", "h0", "h1", "h2", "h3", "h4", "h5", "h6", "h7"]) least(name, c[name], c.paper, 3);
+    for (const name of ["h0", "h1", "h2", "h3", "h4", "h5", "h6", "h7", "trouble"]) least("what is chosen, beside " + name, c.on, c[name], 1.5);
+    for (const name of ["text", "dim", "h0", "h1", "h2", "h3", "h4", "h5", "h6", "h7", "edge"]) least(name + " as text or under it", c[name], c.paper, 4.5);
+    least("text on grey", c.text, c.grey, 4.5);
+    for (const element of document.querySelectorAll("body *:not(svg, svg *, option, select)")) {
+        if (![...element.childNodes].some((node) => node.nodeType === 3 && node.textContent.trim()) || !element.checkVisibility()) continue;
+        let ground = element;
+        while (ground && /, 0\\)|transparent/.test(getComputedStyle(ground).backgroundColor)) ground = ground.parentElement;
+        least(element.tagName + " " + element.textContent.slice(0, 20), getComputedStyle(element).color, getComputedStyle(ground ?? document.body).backgroundColor, 4.5);
+    }
+    return faults;
+})()""".replace("PROBE", PROBE)
+
+
+def check_contrasts(browser, count, path):
+    papers = []
+    for theme in "light", "dark":
+        browser.open(path)
+        if theme == "dark":
+            browser.value("document.getElementById('theme').click()")
+        for hash in "whole", "step":
+            browser.value("page.choose(%s); page.paint()" % ("null" if hash == "whole" else "page.journal.stalls.at(-1) ?? 9"))
+            faults = browser.value(CONTRASTS)
+            count.test(f"contrasts on {theme}, {hash}", faults == [], faults)
+        papers.append(browser.value("getComputedStyle(document.body).backgroundColor"))
+    count.test("the other light is another one", papers == ["rgb(255, 255, 255)", "rgb(22, 24, 28)"], papers)
+
+
+EXCHANGES = "0s1:7\n1r1;0g0@1;1:0;1s0;1:0\n"  # process 1 receives what process 0 has sent, who waits for that
+
+
+def million_data(steps):
+    """So many steps, a multiple of those of a block."""
+    half = BLOCK // 2
+    first = "0m0;0m1\n0m4;0m2\n" + EXCHANGES * (half - 1) + f"~P0w{half - 1}a{half + 1}P1a{half - 1}p1s{half - 1}g{half - 1}\n"
+    return f"chanhub journal 1\nprocs 2\nsteps 1 {steps}\n" + first + (EXCHANGES * half + f"~P0w{half}a{half}P1a{half}p1s{half}g{half}\n") * (steps // BLOCK - 1)
+
+
+def million(steps):
+    return page.joined(page.BEFORE) + million_data(steps) + page.joined(page.BETWEEN) + "\n" + page.joined(page.AFTER)
+
+
+def check_million(browser, count, work):
+    few = "chanhub journal 1\nprocs 2\n0 make 0\n0 make 4\n" + "0 send 1 7\n1 recv 1\n" * (3 * BLOCK // 2 - 1)
+    count.test("the data of a million steps are made as those of a few are", million_data(3 * BLOCK) == data_of(few))
+    path = work / "million.html"
+    path.write_text(million(MILLION))
+    browser.open(path)
+    took = browser.seconds()
+    count.test(f"a million steps are open after {took:.2f} s of the processor", took <= MOST_OPENING)
+    steps = browser.value("page.journal.steps")
+    for share in 1, 0.5, 0.1, 0.01, 0.001, 0.0001:
+        before = browser.seconds()
+        browser.value(f"page.view.show({steps} * 0.3, {steps} * {share}); page.paint()")
+        took = browser.seconds() - before
+        count.test(f"{share} of them are drawn in {took:.2f} s", took <= MOST_VIEW)
+    for share in 1, 0.02:
+        browser.value(f"page.view.show(1000, {steps} * {share}); page.paint()")
+        grey, height, width = browser.value(PROBE)["edge"], browser.value("page.view.place.get(0).height") - 2, browser.value("page.view.width") - 64
+        lanes = [sum(end - top for top, end, colour in runs if colour == grey and end <= 26 + height + 4) for runs in pixels_of(browser, "far")]
+        whole = sum(lanes) / ((width if share < 1 else width - 44) * height * 1.2)
+        count.test(f"process 0 asks in half of the steps, in {share} of them: {whole:.3f}", abs(whole - 0.5) < 0.02)
+    check_strip(browser, count, steps)
+
+
+def check_strip(browser, count, steps):
+    """What the strip tells of a page of a million steps, in which of two processes one waits half of the time; and where calls stalled."""
+    browser.value("page.layOut()")
+    blue = browser.value(PROBE)["h1"]
+    waits = sum(end - top for runs in pixels_of(browser, "strip") for top, end, colour in runs if colour == blue) / WIDTH / 32
+    count.test(f"the strip tells that a quarter waits: {waits:.3f}", abs(waits - 0.25) < 0.01)
+    browser.value(f"page.view.show({steps} * 0.25, {steps} * 0.5); page.paint()")
+    left, width = browser.value("(({ left, width }) => [left, width])(document.getElementById('window').getBoundingClientRect())")
+    count.test("the strip tells what is in view", close((left / WIDTH, width / WIDTH), (0.25, 0.5), 0.01), (left, width))
+
+
+def check_stall_marks(browser, count, work):
+    journal = picture.Journal(WORKERS.encode())
+    open_page(browser, WORKERS, work / "workers.html")
+    browser.value("window.drawn = []; page.layOut()")
+    calls = [Call(*call) for call in browser.value("window.drawn") if call[0] == "strip" and call[1] == "fillRect" and call[2][1] == 16]
+    stalls = collections.defaultdict(list)
+    for by, pid, _ in journal.stalls:
+        stalls[by].append(f"P{pid}")
+    wanted = [float(by * WIDTH // len(journal.lines)) for by in stalls]
+    count.test("the strip marks stalls", close([call.words[0] for call in calls], wanted), (calls, wanted))
+    told = browser.value("[...document.querySelectorAll('#whole li')].map((one) => one.textContent)")
+    wanted = [f"step {by + 1} stalls {', '.join(pids)}" for by, pids in stalls.items()]
+    count.test("the panel tells whom they stall", told == wanted, (told, wanted))
+    by, _, asked = journal.stalls[0]
+    browser.value(f"page.choose({asked})")
+    told, wanted = texts(browser, "#waited"), [f"{by - asked} steps; ended by the deadlock at step {by + 1}"]
+    count.test("a deadlock ends a wait, and not who waited last", told == wanted, (told, wanted))
+
+
+def check_viewer(count):
+    """The viewer is short, and the page in docs/pictures is the one that page.py makes."""
+    kept = ROOT / "docs" / "pictures" / "stalling_pool.html"
+    made = page_of(kept.with_suffix(".journal").read_text())
+    count.test("docs/pictures/stalling_pool.html is as tests/oracle/page.py makes it", kept.read_text() == made, "run tests/oracle/page.py docs/pictures/stalling_pool.journal > docs/pictures/stalling_pool.html")
+    lines = [line for name in page.SCRIPTS for line in page.text_of(name).splitlines()]
+    count.test(f"the viewer has {len(lines)} lines", len(lines) <= VIEWER_LINES)
+    count.test("its lines are as wide as can be read", max(map(len, lines)) < VIEWER_WIDTH)
+
+
+# ---- the journals of benches/, by hand
+
+PAN = """(() => {
+    const took = [];
+    for (let at = 0; at < 20; at++) {
+        const begin = performance.now();
+        page.view.pan(page.view.steps / 20);
+        page.paint();
+        document.body.offsetHeight;
+        took.push(performance.now() - begin);
+    }
+    return took.sort((one, other) => one - other);
+})()"""
+
+
+def measure(folder):
+    """Prints what the pages of the journals of benches/ cost."""
+    subprocess.run([sys.executable, str(ROOT / "benches" / "make_journals.py"), folder], check=True, stdout=subprocess.DEVNULL)
+    for name in "hand_overs", "bursts", "selects", "bytes":
+        path = pathlib.Path(folder) / f"{name}.html"
+        with open(pathlib.Path(folder) / name) as journal, open(path, "w") as made:
+            if TOOLS:
+                subprocess.run([*TOOLS, "page"], stdin=journal, stdout=made, check=True)
+            else:
+                page.write_page(journal, made.write)
+        with tempfile.TemporaryDirectory() as user:
+            browser = Browser(user)
+            begin = time.monotonic()
+            browser.open(path)
+            clock, opened, steps = time.monotonic() - begin, browser.seconds(), browser.value("page.journal.steps")
+            print(f"{name}: {path.stat().st_size / steps:.1f} bytes a step, open after {opened:.2f} s of the processor, {clock:.2f} s by the clock")
+            for share in 1, 0.1, 0.01, 0.005, 0.0005, 0.0001:
+                browser.value(f"page.view.show({steps} * 0.3, {steps} * {share}); page.paint()")
+                took = browser.value(PAN)
+                print(f"  {int(steps * share)} steps: a move takes {took[10]:.0f} ms, at most {took[-1]:.0f}")
+            before = browser.seconds()
+            browser.value("page.find('P3')")
+            print(f"  P3 is found in {browser.seconds() - before:.1f} s")
+            browser.end()
+
+
+def main():
+    if picture.browser() is None:
+        print("0 passed, 0 failed, 1 skipped")
+        sys.exit(77)
+    words = sys.argv[1:]
+    if words and words[0] != "--long" and not words[0].isdigit():
+        TOOLS.append(words.pop(0))
+    if words[:1] == ["--long"]:
+        with tempfile.TemporaryDirectory() as folder:
+            return measure(words[1] if words[1:] else folder)
+    count = Count()
+    check_viewer(count)
+    with tempfile.TemporaryDirectory() as folder:
+        work = pathlib.Path(folder)
+        browser = Browser(folder)
+        browser.ask("Page.addScriptToEvaluateOnNewDocument", source=RECORDER)
+        for seed in range(1, int(words[0]) + 1 if words else RANDOM + 1):
+            check_random(browser, count, work, seed)
+            check_random(browser, count, work, seed, third=True)
+        for seed, total in LONG:
+            check_long(browser, count, work, seed, total)
+        count.run("views from afar", lambda: check_columns(browser, count, work))
+        count.run("few steps", lambda: check_edges(browser, count, work))
+        count.run("a clock", lambda: check_clock(browser, count, work))
+        count.run("values that lie in a port", lambda: check_burst(browser, count, work))
+        count.test("no error in the console of right pages", not browser.errors, browser.errors[:2])
+        count.run("wrong data", lambda: check_notices(browser, count, work))
+        path = work / "pipe.html"
+        open_page(browser, PIPE, path)
+        for check in check_follow, check_mouse, check_lanes, check_waits, check_keys, check_links, check_contrasts:
+            count.run(check.__name__, lambda: check(browser, count, path))
+        count.run("stalls in the strip", lambda: check_stall_marks(browser, count, work))
+        for check in check_locks, check_results, check_sevens, check_left, check_deadlocks:
+            count.run(check.__name__, lambda: check(browser, count, work))
+        count.run("bytes that HTML would take for its own", lambda: check_nasty(browser, count, work))
+        count.run("bytes a step", lambda: check_bytes(count, work))
+        browser.ask("Page.navigate", url="about:blank")
+        count.run("a million steps", lambda: check_million(browser, count, work))
+        count.test("no error in the console", not browser.errors, browser.errors[:2])
+        browser.end()
+    return count.end()
+
+
+if __name__ == "__main__":
+    sys.exit(main())

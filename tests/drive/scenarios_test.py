@@ -1,0 +1,487 @@
+#!/usr/bin/env python3
+"""scenarios_test.py PROGRAM [TOOL [MUTATIONS]]: tries the scripts here that look at scenarios and at their runs.
+
+That is lint_scenario.py, which has to agree with the program on every file, explain.sh, until_stall.sh, seeds.sh, report.py, what
+answer.py says of a fault, and what scripts say of -h and of files that they cannot read. A line for each test that fails; the last
+line counts: 'N passed, M failed'.
+"""
+import glob
+import itertools
+import os
+import random
+import re
+import signal
+import subprocess
+import sys
+import tempfile
+import time
+import tomllib
+
+sys.dont_write_bytecode = True
+ROOT = os.path.dirname(os.path.dirname(os.path.dirname(os.path.abspath(__file__))))
+sys.path[:0] = [os.path.join(ROOT, it) for it in ('tools', 'tools/build', 'tools/gate', 'tests/oracle')]
+from counting import Count
+
+EXAMPLES = os.path.join(ROOT, 'examples')
+
+# What the formats allow and examples do not show: each kind of text, table, number and date.
+RICH = [
+    '''\
+seed = 0x7F
+limit = 1_000
+"journal" = 2
+ports = [ 1, # one
+  0o17, 0b11,
+]
+process = [
+  { steps = ["send 1 #00ff", 'recv 1', """select r1 s1:5 \\
+      default""", \'\'\'close 1\'\'\'] },
+  { steps = [
+    "range\\u00201", # a comment
+  ], },
+]
+''',
+    '''\
+# A header behind an array.
+ports = [] # none
+[[process]]
+steps = []
+[[process]]
+"steps" = ["select default", "select", "range 65535"]
+''',
+    'ports = [0]\r\nprocess = [{steps = ["send 1 18446744073709551615"]}, {steps = ["recv\\x201"]}]\r\nlimit = 10\r\n',
+]
+
+PIECES = [
+    '"', "'", '"""', "'''", '[', ']', '[[', ']]', '{', '}', ',', '=', '.', '#', '\\', '\n', '\r\n', '\r', ' ', '\t', '\x00', '\x7f', 'ä',
+    '_', '-', '+', '0', '1', '2', '9', '00', '64', '65', '1024', '1025', '65535', '65536', '18446744073709551615', '18446744073709551616',
+    '9223372036854775807', '9223372036854775808', '-1', '+1', '1.0', '1e3', '1e999', 'inf', 'nan', '0x1f', '0xG', '0o8', '0b1', '1_0', '1__0',
+    'true', '2020-02-29', '2021-02-29', '2020-01-01T00:00:60Z', '2020-01-01 10:00', '10:61', '10:30', 'seed = 1\n', 'limit = 0\n', 'limit = 1000001\n',
+    'journal = 2\n', 'journal = 3\n', 'ports = []\n', 'other = 1\n', 'a.b = 1\n', '[process]\n', '[[process]]\nsteps = []\n', '[[process.steps]]\n', '[other]\n',
+    'process.steps = []\n', 'steps', 'process', '{steps = []}', '{ steps = ["close 1"], }', '"send 1 2"', '"recv 1 "', '"select r1 default"', '"range 1"',
+    's1:2', 'r1', 's1:#00', '#00', ' default', 'default', 'send', 'recv', 'select ', '\\n', '\\t', '\\e', '\\x31', '\\u0031', '\\U00110000', '\\q', '\\\n  ',
+    '\N{BYTE ORDER MARK}',
+]
+
+
+# after so many seconds what should end, on a slow machine too, is taken to hang
+LONG = 120
+
+
+def run(words, **how):
+    done = subprocess.run(words, stdin=subprocess.DEVNULL, capture_output=True, timeout=LONG, **how)
+    return done.returncode, done.stdout.decode(), done.stderr.decode()
+
+
+def read(path):
+    with open(path, 'rb') as file:
+        return file.read()
+
+
+def write(path, text):
+    with open(path, 'wb') as file:
+        file.write(text)
+
+
+def table(name):
+    with open(os.path.join(ROOT, 'tests', name + '.toml'), 'rb') as file:
+        return tomllib.load(file)
+
+
+def path_of(name):
+    """Where a script stands."""
+    paths = (os.path.join(ROOT, folder, name) for folder in ('tools', 'tools/build', 'tests/oracle'))
+    return next(filter(os.path.exists, paths), os.path.join(ROOT, 'tools', name))
+
+
+def examples(kind):
+    return [it.removesuffix('.stdout') for it in sorted(glob.glob(os.path.join(EXAMPLES, kind, '*.stdout')))]
+
+
+def rows():
+    """The scenarios of tests/, good and faulty."""
+    for row in table('runs')['run']:
+        yield row['scenario'].encode()
+    scenarios = table('scenarios')
+    for group in scenarios['group']:
+        yield from (text.encode() for text in group['texts'].values())
+        yield from (bytes.fromhex(text) for text in group.get('hexadecimal', {}).values())
+    for group in scenarios['steps']:
+        yield from (group['text'].replace('STEP', value).encode() for value in group['values'])
+
+
+def limits():
+    """Scenarios at the limits, and one past them."""
+    for times in (64, 65):
+        yield b'ports = [%s]\nprocess = [{steps = []}]\n' % (b'0,' * times)
+        yield b'ports = []\nprocess = [%s]\n' % (b'{steps = []},' * times)
+    for times in (10000, 10001):
+        yield b'ports = []\nprocess = [{steps = [%s]}]\n' % (b"'recv 1'," * times)
+    for cases in (16, 17):
+        yield b'ports = [1]\nprocess = [{steps = ["select%s default"]}]\n' % (b' r1' * cases)
+    for size in (1048576, 1048577):
+        head = b'ports = []\nprocess = [{steps = []}]\n#'
+        yield head + b'x' * (size - len(head))
+    # The arrays are elements of `ports`, so the program refuses both; but the deeper one is no TOML.
+    for depth in (79, 80):
+        yield b'ports = [%s%s]\nprocess = [{steps = []}]\n' % (b'[' * depth, b']' * depth)
+    for parts in (80, 81):
+        yield b'%s = 1\nports = []\nprocess = [{steps = []}]\n' % b'.'.join([b'a'] * parts)
+    for digits in (32, 33):
+        yield b'journal = 2\nports = [1]\nprocess = [{steps = ["send 1 #%s"]}]\n' % (b'0f' * digits)
+
+
+def mutate(chance, text):
+    """The text with a few places changed."""
+    for _ in range(chance.choice((1, 1, 1, 2, 3))):
+        at = chance.randrange(len(text) + 1)
+        end = min(len(text), at + chance.choice((0, 0, 1, 1, 2, 8)))
+        kind = chance.randrange(5)
+        if kind == 0:
+            text = text[:at] + text[end:]
+        elif kind == 1:
+            lines = text.splitlines(keepends=True)
+            line = chance.choice(lines or [b''])
+            at = sum(map(len, lines[:chance.randrange(len(lines) + 1)]))
+            text = text[:at] + line + text[at:]
+        elif kind == 2:
+            # A number becomes another one.
+            found = list(re.finditer(rb'\d+', text))
+            if found:
+                number = chance.choice(found)
+                text = text[:number.start()] + chance.choice(PIECES[27:60]).encode() + text[number.end():]
+        else:
+            text = text[:at] + chance.choice(PIECES).encode() + text[end:]
+    return text
+
+
+class Tests(Count):
+    def __init__(self, program, tool, folder):
+        super().__init__()
+        self.program = program
+        self.folder = folder
+        self.env = {**os.environ, 'CHANHUB': program, 'TOOL': tool, 'OPENER': 'true', 'TMPDIR': folder}
+
+    def path(self, name):
+        return os.path.join(self.folder, name)
+
+    def script(self, name, *words):
+        try:
+            return run([path_of(name), *words], env=self.env)
+        except OSError:
+            # There is no such script.
+            return None, '', ''
+
+    def left(self):
+        """What lies in the folder for what is kept for a while."""
+        return {it for it in os.listdir(self.folder) if it.startswith('tmp')}
+
+    def lint(self, text):
+        """Whether the linter takes it, in one process for all; and what it says."""
+        import lint_scenario
+        faults = lint_scenario.faults_of(text)
+        return not faults, [(*lint_scenario.line_and_column(text, it.at), str(it)) for it in faults]
+
+    def agrees(self, text):
+        """Whether linter and program agree on a scenario."""
+        write(self.path('scenario'), text)
+        status, _, told = run([self.program, 'run', self.path('scenario')])
+        try:
+            takes, _ = self.lint(text)
+        except Exception as error:
+            print('lint_scenario.py: %r on %r' % (error, text[:300]))
+            return False
+        if takes == (status == 2):
+            print('lint_scenario.py %s, and the program: %d %s: %r' % ('takes it' if takes else 'refuses it', status, told.strip(), text[:600]))
+        return takes == (status != 2)
+
+    def lint_agrees(self, mutations):
+        good = [read(it) for it in examples('scenarios')] + [it.encode() for it in RICH]
+        self.test('lint_scenario.py takes the examples', all(self.lint(it)[0] for it in good) and all([self.agrees(it) for it in good]))
+        self.test('lint_scenario.py agrees on the rows of tests/', all([self.agrees(it) for it in rows()]))
+        self.test('lint_scenario.py agrees at the limits', all([self.agrees(it) for it in limits()]))
+        chance = random.Random(38)
+        # Whatever a script does is done soon.
+        short = [it for it in good if len(it) < 2000]
+        self.test('lint_scenario.py agrees on %d changed scenarios' % mutations, all([self.agrees(mutate(chance, chance.choice(short))) for _ in range(mutations)]))
+
+    def lint_says_where(self):
+        """Worked by hand: what is wrong stands at this line and column."""
+        head = 'ports = [1]\n'
+        one = head + 'process = [{steps = [%s]}]\n'
+        places = [
+            ('ports = [1\nprocess = []\n', 2, 1, 'an element of an array'),
+            ('ports = [1]\nsteps = "a\n', 2, 9, 'does not end'),
+            ('ports = [1]\n\nports = [2]\nprocess = [{steps = []}]\n', 3, 1, '`ports` stands twice'),
+            ('ports = [1, 1025]\nprocess = [{steps = []}]\n', 1, 13, 'a capacity'),
+            ('# é\nports = ["é", "é"]\nprocess = [{steps = []}]\n', 2, 15, 'a capacity'),
+            (head + 'seed = -1\nprocess = [{steps = []}]\n', 2, 8, 'seed'),
+            (head + 'limit = 0\nprocess = [{steps = []}]\n', 2, 9, 'limit'),
+            (head + 'colour = 1\nprocess = [{steps = []}]\n', 2, 1, '`colour`'),
+            (head + '[[process]]\n', 2, 1, '`steps`'),
+            ('process = [{steps = []}]\n', 1, 1, '`ports`'),
+            (one % '"send 1 2", "sned 1 2"', 2, 35, 'process 0 step 1'),
+            (one % '"send 65536 2"', 2, 28, '`65536` is no port'),
+            (one % '"send 1 02"', 2, 30, '`02` is no value'),
+            (one % '"recv 1 2"', 2, 30, '`recv PORT`'),
+            (one % '"send 1"', 2, 29, '`send PORT V`'),
+            (one % '"select r1 s1 default"', 2, 33, '`s1` is no case'),
+            (one % '"select\\u0020r1 r"', 2, 39, 'no port'),
+            (one % '"send 1 #00"', 2, 30, 'journal = 2'),
+            (one % '\n  """\nrecv\\\n  x 1"""', 5, 3, None),
+            (one % '7', 2, 22, 'a whole number'),
+            (head + 'process = []\n', 2, 11, 'at least one process'),
+        ]
+        for text, line, column, said in places:
+            _, faults = self.lint(text.encode())
+            where = [it for it in faults if it[:2] == (line, column) and (said is None or said in it[2])]
+            if said is None:
+                # The step's first field is `recvx`, and begins in the line of its text.
+                where = [it for it in faults if it[0] == 4 and it[1] == 1]
+            self.test('lint_scenario.py says where: line %d column %d of %r' % (line, column, text), where and len(faults) == (2 if 'é' in text else 1))
+        write(self.path('two'), b'ports = [9999]\nprocess = [{steps = ["recv x"]}]\n')
+        status, told, errors = self.script('lint_scenario.py', self.path('two'))
+        places = [it.removeprefix(self.path('two')).split(': ')[0] for it in told.splitlines()]
+        self.test('lint_scenario.py tells each fault, and status 1', (status, places, errors) == (1, [':1:10', ':2:28'], ''))
+        self.test('lint_scenario.py says nothing of a good file', self.script('lint_scenario.py', os.path.join(EXAMPLES, 'scenarios', 'ring')) == (0, '', ''))
+        status, _, errors = self.script('lint_scenario.py', self.path('missing'))
+        self.test('lint_scenario.py on a file that is not there', status == 2 and errors.count('\n') == 1)
+
+    def explains(self):
+        journal = os.path.join(EXAMPLES, 'journals', 'hand_over')
+        status, told, errors = self.script('explain.sh', journal)
+        names = told.splitlines()
+        is_well = status == 0 and errors == '' and len(names) == 3
+        self.test('explain.sh explains a journal', is_well and read(names[1]).endswith(b'</svg>\n') and b'recv 1' in read(names[0]))
+        self.test('explain.sh makes its page', is_well and read(names[2]).endswith(b'</html>\n'))
+        write(self.path('long'), b'chanhub journal 1\nprocs 2\n0 make 0\n1 recv 1\n' + b'0 make 5000\n' * 400 + b'0 send 1 9\n' + b'0 make 5000\n' * 200)
+        status, told, errors = self.script('explain.sh', self.path('long'))
+        names = [os.path.basename(path) for path in told.splitlines()]
+        windows = ['picture-1-31.svg', 'picture-373-432.svg']
+        self.test('explain.sh draws windows of a long journal', (status, errors, names) == (0, '', ['story.txt', 'overview.svg', *windows, 'page.html']), names)
+        status, told, errors = self.script('explain.sh', journal, '1', '2')
+        self.test('explain.sh explains some steps of a journal', status == 0 and errors == '' and b'      3  P0 send 1 9' not in read(told.splitlines()[0]))
+        for word in ('-h', '--help'):
+            status, told, errors = self.script('explain.sh', word)
+            self.test('explain.sh ' + word, status == 0 and errors == '' and told.startswith('usage: ') and 'JOURNAL' in told)
+        status, told, errors = self.script('explain.sh', journal, '2')
+        one = read(told.splitlines()[0]) if told else b''
+        self.test('explain.sh explains one step of a journal', status == 0 and errors == '' and b'\n      2  P' in one and b'\n      1  P' not in one and b'\n      3  P' not in one)
+        for words in ((), (journal, '1', '2', '3'), (journal, journal), (journal, '1', journal), (journal, ''), (journal, '-o')):
+            status, told, errors = self.script('explain.sh', *words)
+            self.test('explain.sh says how it is used: %s' % (words[1:],), status == 2 and told == '' and errors.startswith('usage: '))
+        before = self.left()
+        write(self.path('faulty'), b'chanhub journal 1\nprocs 0\n')
+        status, told, errors = self.script('explain.sh', self.path('faulty'))
+        self.test('explain.sh leaves nothing of a faulty journal', (status, told, self.left()) == (2, '', before) and errors == 'chanhub: line 2: bad procs\n')
+
+    def explains_a_chapter(self):
+        # The last step of the chapter looks like one of its checkpoint, which has the port, its two values and the exit.
+        before, chapter, other = (self.path(name) for name in ('chapter', 'next', 'other'))
+        again = b'0 make 9\n0 send 1 5\n0 send 1 6\n2 exit\n'
+        write(before, b'chanhub journal 2\nprocs 3\n0 make 9\n2 exit\n0 send 1 4\n1 recv 1\n0 send 1 5\n1 send 1 6\n')
+        write(chapter, b'chanhub journal 2\nprocs 3\n' + again + b'0 send 1 7\n1 recv 1\n')
+        write(other, b'chanhub journal 2\nprocs 3\n' + again[:-7])
+        status, told, errors = self.script('explain.sh', '--after', before, chapter)
+        said, *names = told.splitlines()
+        self.test('explain.sh --after says where the checkpoint ends', (status, said, errors, len(names)) == (0, 'its checkpoint ends with step 4', '', 3))
+        self.test('explain.sh --after explains the chapter', b'\n      5  P0 send 1 7' in read(names[0]))
+        self.test('explain.sh --after of chapters without a step between', self.script('explain.sh', '--after', other, other, '1')[1].startswith('its checkpoint ends with step 3\n'))
+        left = self.left()
+        status, told, errors = self.script('explain.sh', '--after', before, other)
+        said = f'{other} breaks the chain at line 6: not the checkpoint of the chapter before\n'
+        self.test('explain.sh --after another chapter', (status, told, errors, self.left()) == (3, '', said, left))
+        for words in ((), (before,)):
+            status, told, errors = self.script('explain.sh', '--after', *words)
+            self.test('explain.sh --after says how it is used', status == 2 and told == '' and errors.startswith('usage: '))
+
+    def explains_every_run(self):
+        stalls, ends = (os.path.join(EXAMPLES, it) for it in ('philosophers', os.path.join('scenarios', 'mutual_exclusion')))
+        status, told, errors = self.script('explain.sh', '--every', stalls)
+        said, *names = told.splitlines()
+        # Process 0 makes four steps, and each of three philosophers takes a fork and asks for another; the ports are made before.
+        self.test('explain.sh --every says after how many steps a run stalls', (status, said, errors, len(names)) == (0, 'stall after 10 steps', '', 3))
+        story, picture, _ = (read(it).decode() for it in names)
+        is_drawn = story.count('stall: everyone who is left waits') == 1 and '     13  P' in story and '     14  P' not in story
+        self.test('explain.sh --every explains that run', is_drawn and picture.endswith('</svg>\n'))
+        status, told, errors = self.script('explain.sh', '--every', stalls, '13')
+        one = read(told.splitlines()[1]).decode()
+        self.test('explain.sh --every explains one step of that run', status == 0 and '     13  P' in one and '     11  P' not in one)
+        before = self.left()
+        status, told, errors = self.script('explain.sh', '--every', ends)
+        self.test('explain.sh --every says that no run stalls', (status, errors, self.left()) == (0, '', before) and re.fullmatch(r'no stall: \d+ states, \d+ steps between them\n', told))
+        write(self.path('faulty'), b'ports = [x]\n')
+        status, told, errors = self.script('explain.sh', '--every', self.path('faulty'))
+        self.test('explain.sh --every leaves nothing of a faulty scenario', (status, told, self.left()) == (2, '', before) and errors.startswith('chanhub: scenario: '))
+        status, told, errors = self.script('explain.sh', '--every')
+        self.test('explain.sh --every says how it is used', status == 2 and told == '' and errors.startswith('usage: '))
+
+    def stalls(self):
+        stalls, ends = (os.path.join(EXAMPLES, 'scenarios', it) for it in ('everyone_stalls', 'hand_over'))
+        status, told, errors = self.script('until_stall.sh', stalls)
+        found = re.fullmatch(r'run 1 stalled: (\S+)\n', told)
+        journal = read(found[1]) if found else b''
+        self.test('until_stall.sh keeps the journal of a run that stalls', status == 0 and errors == '' and journal.startswith(b'chanhub journal '))
+        events = subprocess.run([self.program, 'replay'], input=journal, capture_output=True).stdout
+        self.test('until_stall.sh keeps a journal with a stall', b' stalled\n' in events)
+        before = self.left()
+        self.test('until_stall.sh says that none stalled', self.script('until_stall.sh', ends, '3') == (1, 'none of 3 runs stalled\n', '') and self.left() == before)
+        status, told, errors = self.script('until_stall.sh', ends, 'many')
+        self.test('until_stall.sh says how it is used', status == 2 and told == '' and errors.startswith('usage: '))
+        write(self.path('faulty'), b'ports = 1\n')
+        self.test('until_stall.sh on a faulty file', self.script('until_stall.sh', self.path('faulty')) == (2, '', 'chanhub: scenario: bad key\n'))
+        self.test('until_stall.sh --help', self.script('until_stall.sh', '--help')[:2:2] == (0,) and 'seed' in self.script('until_stall.sh', '--help')[1])
+        for number in (signal.SIGINT, signal.SIGTERM):
+            self.interrupt('until_stall.sh', number, ends, '999999999')
+            self.interrupt('seeds.sh', number, ends, '999999999')
+
+    def interrupt(self, name, number, *words):
+        """A signal to the script's group, as Ctrl-C sends it: it ends, with its status, and leaves nothing."""
+        before = self.left()
+        what = '%s ends by %s and leaves nothing' % (name, number.name)
+        try:
+            how = {'env': self.env, 'start_new_session': True, 'stdout': subprocess.PIPE, 'stderr': subprocess.STDOUT}
+            child = subprocess.Popen([path_of(name), *words], **how)
+        except OSError:
+            self.test(what, False)
+            return
+        with child:
+            # What lies in its folder shows that it has begun with its runs.
+            until = time.monotonic() + LONG
+            while not any(os.listdir(os.path.join(self.folder, it)) for it in self.left() - before) and time.monotonic() < until:
+                time.sleep(0.05)
+            time.sleep(0.5)
+            os.killpg(child.pid, number)
+            said, _ = child.communicate(timeout=LONG)
+        # The shell says of a program that it waited for how that ended.
+        self.test(what, child.returncode == 128 + number and set(said.split()) <= {b'Terminated'} and self.left() == before)
+
+    def counts(self):
+        scenario = os.path.join(EXAMPLES, 'scenarios', 'seeds')
+        kept = self.path('kept')
+        status, told, errors = self.script('seeds.sh', scenario, '6', kept)
+        # One process: of each seed one journal, which has the choice word.
+        self.test('seeds.sh counts outcomes and journals', (status, errors) == (0, '') and told.endswith('6 runs, 2 outcomes, 6 different journals\n'))
+        self.test('seeds.sh counts the journals of an outcome', '4 of 6, first with seed 0, status 0:\n' in told and '  different journals: 4\n' in told)
+        names = sorted(os.listdir(kept)) if os.path.isdir(kept) else []
+        replays = [subprocess.run([self.program, 'replay'], input=read(os.path.join(kept, it)), capture_output=True) for it in names]
+        self.test('seeds.sh keeps a journal of each outcome', names == ['journal_1', 'journal_2'] and all(it.returncode == 0 for it in replays) and b'got 2' in replays[0].stdout and b'got 1' in replays[1].stdout)
+        status, told, errors = self.script('seeds.sh', '--help')
+        self.test('seeds.sh says that no seed repeats a schedule', status == 0 and 'No seed repeats a schedule' in told)
+        status, told, errors = self.script('seeds.sh', os.path.join(EXAMPLES, 'scenarios', 'limit_is_reached'), '2')
+        self.test('seeds.sh counts no journal of a run that has none', status == 0 and 'chanhub: journal full' in told and told.endswith(' 0 different journals\n'))
+
+    def answered(self, words, **how):
+        done = subprocess.run([path_of('answer.py'), self.program, *words], stderr=subprocess.PIPE, timeout=LONG, **how)
+        return done.returncode, done.stderr.decode()
+
+    def answers(self):
+        """Behind the program's fault line stands one line more, which says what is wrong."""
+        missing, two, journal = self.path('missing'), self.path('two'), b'chanhub journal 1\nprocs 1\n'
+        text = b'ports = [9999]\nprocess = [{steps = ["recv x"]}]\n'
+        write(two, text)
+        full = os.path.join(EXAMPLES, 'scenarios', 'limit_is_reached')
+        for words, given, fault, helps in (
+            ([], b'', 'bad arguments', 'there is no command'),
+            (['runn'], b'', 'bad arguments', '`runn` is no command'),
+            (['run', '--jurnal'], b'', 'bad arguments', '`--jurnal` is no option of run'),
+            (['run', '--journal', '--journal'], b'', 'bad arguments', '`--journal` stands twice'),
+            (['run', two, 'b'], b'', 'bad arguments', '`b` is one word too many'),
+            (['run', b'\xff'], b'', 'bad arguments', '`\\xff` is not UTF-8'),
+            (['replay', two], b'', 'bad arguments', '`%s` is one word too many: replay reads standard input' % two),
+            (['verify', '--journal', two], b'', 'bad arguments', '`--journal` is no option of verify'),
+            (['verify'], b'', 'bad arguments', 'verify lacks JOURNAL and EVENTS'),
+            (['verify', two], b'', 'bad arguments', 'verify lacks EVENTS'),
+            (['verify', two, two, 'c'], b'', 'bad arguments', '`c` is one word too many'),
+            (['run', missing], b'', 'read failed', missing + ': No such file'),
+            (['run', self.folder], b'', 'read failed', self.folder + ': Is a directory'),
+            (['verify', two, missing], b'', 'read failed', missing + ': No such file'),
+            (['replay'], journal.replace(b'\n', b'\r\n'), 'line 1: bad header', 'line 1 ends with a carriage return (CRLF)'),
+            (['replay'], b'\xef\xbb\xbf' + journal, 'line 1: bad header', 'line 1 begins with a byte-order mark'),
+            (['replay'], b'', 'line 1: bad header', 'the journal ends before line 1'),
+            (['replay'], b'chanhub journal 1\nprocs 65\n', 'line 2: bad procs', 'line 2 is `procs 65`'),
+            (['replay'], journal + b'0 exit', 'line 3: cut line', 'line 3, the last, has no newline'),
+            (['replay'], journal + b'0 mak 1\n0 exit\n', 'line 3: bad step', 'line 3 is `0 mak 1`: a step is'),
+            (['replay'], journal + b'0 make 01\n', 'line 3: bad number', 'line 3 is `0 make 01`: a number'),
+            (['run', two], b'', 'scenario: bad ports', two + ':1:10: '),
+            (['run'], text, 'scenario: bad ports', 'standard input:1:10: '),
+            (['run', full], b'', 'journal full', 'the scripts ask for more steps'),
+        ):
+            write(self.path('given'), given)
+            with open(self.path('given')) as file:
+                status, told = self.answered(words, stdin=file, stdout=subprocess.DEVNULL)
+            wanted = subprocess.run([self.program, *words], input=given, capture_output=True)
+            is_same = (status, told.splitlines(keepends=True)[:1]) == (wanted.returncode, [wanted.stderr.decode()])
+            is_well = is_same and told.startswith('chanhub: %s\n./chanhub: %s' % (fault, helps)) and told.count('\n') == 2
+            self.test('answer.py helps with %s %s' % (words, given), is_well, told)
+        import answer
+        for words in (it for size in range(4) for it in itertools.product(('replay', 'run', 'verify', '--journal', '--', '-', missing), repeat=size)):
+            is_wrong = run([self.program, *words])[2] == 'chanhub: bad arguments\n'
+            self.test('answer.py agrees on the words %s' % (words,), bool(answer.wrong_word(words)) == is_wrong)
+        with open('/dev/full', 'wb') as file:
+            told = self.answered(['run', os.path.join(EXAMPLES, 'scenarios', 'ring')], stdout=file)
+        self.test('answer.py says what is not written', told == (1, 'chanhub: write failed\n./chanhub: standard output, /dev/full\n'), told)
+        told = self.answered(['replay'], input=b'chanhub journal 1\n', stdout=subprocess.DEVNULL)
+        self.test('answer.py cannot read a pipe again', told[0] == 2 and 'give the input as a file' in told[1], told)
+        for name in examples('scenarios'):
+            ran = subprocess.run([self.program, 'run', name], capture_output=True)
+            self.test('answer.py adds nothing to ' + name, ran.returncode in (1, 2) or self.answered(['run', name], stdout=subprocess.DEVNULL) == (ran.returncode, ''))
+
+    def refusals(self):
+        """No script meets a file by a traceback."""
+        for name in ('page.py', 'overview.py', 'windows.py'):
+            for path, why in ((self.path('missing'), 'No such file'), (self.folder, 'Is a directory'), ('/dev/null', 'line 1 is none of a journal'), (self.path('two'), 'line 1 is none')):
+                status, told, errors = self.script(name, path)
+                self.test('%s on %s' % (name, path), (status, told) == (1, '') and errors.startswith('%s: %s: %s' % (name, path, why)) and errors.count('\n') == 1, errors)
+        for name in ('model.py', 'story_model.py'):
+            done = subprocess.run([path_of(name)], input=b'chanhub journal 1\nprocs 1\n0 mak 1\n', capture_output=True)
+            self.test('%s on no journal' % name, (done.returncode, done.stdout, done.stderr) == (1, b'', name.encode() + b': standard input: line 3 is none of a journal\n'), done.stderr)
+        for name in ('explain.sh', 'page.py', 'overview.py', 'windows.py', 'until_stall.sh', 'seeds.sh', 'lint_scenario.py', 'aarch64.sh', 'soak.sh', 'trials.sh', 'build.py', 'ready.py', 'claims.py', 'model.py', 'story_model.py'):
+            for word in ('-h', '--help'):
+                status, told, errors = self.script(name, word)
+                self.test('%s %s' % (name, word), (status, errors) == (0, '') and name in told or name == 'story_model.py' and told, (status, errors))
+
+    def passes_no_window(self):
+        """What a page tells of a value does not go through the steps of its window."""
+        import page
+        class Window:
+            def __init__(self, steps):
+                self.start, self.stop, self.has = steps.start, steps.stop, steps.__contains__
+            def __contains__(self, place):
+                return self.has(place)
+        data = page.Data(['chanhub journal 1', 'procs 1', '0 make 1', '0 send 1 5'], lambda text: None)
+        data.window = Window(data.window)
+        data.line(2, '0 recv 1')
+        self.test('page.py does not go through its window', {1, 2} <= data.told)
+
+    def reports(self):
+        """What a journal reports by report.py is what a run prints, where that is the same under each schedule."""
+        for scenario in examples('scenarios'):
+            wanted = read(scenario + '.stdout')
+            if not wanted:
+                continue
+            journal = subprocess.run([self.program, 'run', scenario, '--journal'], capture_output=True).stdout
+            write(self.path('journal'), journal)
+            status, _, _ = self.script('report.py', self.program, self.path('journal'))
+            self.test('report.py on ' + os.path.basename(scenario), status == 0 and read(self.path('journal.report')) == wanted)
+
+
+def main():
+    words = sys.argv[1:]
+    program = os.path.abspath(words[0])
+    tool = os.path.abspath(words[1] if len(words) > 1 else os.path.join(ROOT, 'crates', 'chanhub_tool', 'out', 'chanhub_tool'))
+    mutations = int(words[2]) if len(words) > 2 else 1500
+    # What is started here hears Ctrl-C, though this script may have been started deaf to it, as in the background.
+    signal.signal(signal.SIGINT, signal.default_int_handler)
+    with tempfile.TemporaryDirectory() as folder:
+        tests = Tests(program, tool, folder)
+        for part in (lambda: tests.lint_agrees(mutations), tests.lint_says_where, tests.explains, tests.explains_a_chapter, tests.explains_every_run, tests.stalls, tests.counts, tests.answers, tests.refusals, tests.passes_no_window, tests.reports):
+            try:
+                part()
+            except (ImportError, OSError, TypeError) as error:
+                tests.test(str(error), False)
+    return tests.end()
+
+
+if __name__ == '__main__':
+    sys.exit(main())

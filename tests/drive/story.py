@@ -1,0 +1,313 @@
+#!/usr/bin/env python3
+"""story.py TOOL: has the built chanhub_tool (TOOL) tell the examples, random journals and the longest ones, whole and by
+windows, and compares each text with the one that story_model.py writes. Runs the rows of tests/stories.toml and
+tests/faulty_journals.toml too, and stories with each allocation refused, which needs a C compiler. The last line counts:
+'N passed, M failed'."""
+import contextlib
+import gc
+import os
+import pathlib
+import pty
+import random
+import resource
+import subprocess
+import sys
+import tempfile
+import tomllib
+import tty
+
+sys.dont_write_bytecode = True
+ROOT = pathlib.Path(__file__).resolve().parents[2]
+sys.path[:0] = [str(ROOT / it) for it in ("tools/gate", "tests/oracle")]
+from counting import Count
+from story_model import Story
+
+RANDOM_JOURNALS = 200
+# of these by windows too
+WINDOWED = 50
+MINUTE = 60
+MOST_ALLOCATIONS = 1000
+NO_MEMORY = b"chanhub: out of memory\n"
+MOST_BYTES = 67_108_864
+# the most memory for the story of a journal of so many bytes that has the most entries
+MOST_MEMORY = 1_000_000_000
+# Runs a program and tells its status and the most memory that was resident. A process begins with what the one has that starts it,
+# which here is much; so this small one stands between.
+MEASURE = """
+import os, subprocess, sys
+child = subprocess.Popen(sys.argv[1:], stderr=subprocess.DEVNULL)
+_, status, usage = os.wait4(child.pid, 0)
+print(os.waitstatus_to_exitcode(status), usage.ru_maxrss * 1024, file=sys.stderr)
+"""
+
+
+class Program:
+    """The built program."""
+
+    def __init__(self, path):
+        self.path = pathlib.Path(path).resolve()
+
+    def run(self, words, journal=b"", folder=None, **environment):
+        """The status, what was written to standard output, and to standard error; nothing where it takes too long. It runs in the
+        folder."""
+        how = {"cwd": folder, "env": {**os.environ, **environment}, "timeout": MINUTE}
+        try:
+            done = subprocess.run([self.path, *words], input=journal, capture_output=True, **how)
+        except subprocess.TimeoutExpired:
+            return None
+        return done.returncode, done.stdout, done.stderr
+
+    def memory(self, words, journal):
+        """The status, how many bytes of text were written, and the most memory in bytes that was resident."""
+        with tempfile.TemporaryFile() as text, tempfile.TemporaryFile() as given:
+            given.write(journal)
+            given.seek(0)
+            words = [sys.executable, "-c", MEASURE, self.path, *words]
+            said = subprocess.run(words, stdin=given, stdout=text, stderr=subprocess.PIPE, text=True, check=True).stderr
+            status, peak = map(int, said.split()[-2:])
+            return status, text.seek(0, os.SEEK_END), peak
+
+    def run_in_terminal(self, words, journal, **environment):
+        """What it writes to a terminal of a short journal."""
+        reader, terminal = pty.openpty()
+        tty.setraw(terminal)
+        env = {**{name: value for name, value in os.environ.items() if name != "NO_COLOR"}, **environment}
+        with subprocess.Popen([self.path, *words], stdin=subprocess.PIPE, stdout=terminal, env=env) as child:
+            os.close(terminal)
+            child.stdin.write(journal)
+            child.stdin.close()
+            pieces = []
+            # A terminal that nobody writes to any longer is one that can't be read.
+            with contextlib.suppress(OSError):
+                while piece := os.read(reader, 4096):
+                    pieces.append(piece)
+        os.close(reader)
+        return b"".join(pieces)
+
+    def run_to_full(self, words, journal=b""):
+        """The status and what was written to standard error, where standard output takes nothing."""
+        with open("/dev/full", "wb") as full:
+            done = subprocess.run([self.path, *words], input=journal, stdout=full, stderr=subprocess.PIPE, timeout=MINUTE)
+        return done.returncode, done.stderr
+
+    def run_to_short(self, words, journal, most):
+        """The status, what was written to standard error, and to a file that has room for so many bytes."""
+        with tempfile.TemporaryFile() as text:
+            # A signal that is ignored here stays so: else the first write past the end would end the program.
+            how = {"preexec_fn": lambda: resource.setrlimit(resource.RLIMIT_FSIZE, (most, most)), "restore_signals": False}
+            done = subprocess.run([self.path, *words], input=journal, stdout=text, stderr=subprocess.PIPE, timeout=MINUTE, **how)
+            text.seek(0)
+            return done.returncode, done.stderr, text.read()
+
+    def run_on_folder(self, words):
+        """The same as of `run`, where standard input is a folder, of which nothing can be read."""
+        folder = os.open(ROOT, os.O_RDONLY)
+        done = subprocess.run([self.path, *words], stdin=folder, capture_output=True, timeout=MINUTE)
+        os.close(folder)
+        return done.returncode, done.stdout, done.stderr
+
+    def tells(self, journal, story, window):
+        """Whether it tells these steps of the journal, or all where there is no window, as story_model.py does."""
+        words = ["story", *(str(step) for step in window or ())]
+        return self.run(words, journal.encode()) == (0, story.text(*window or (1, len(story.entries))), b"")
+
+
+def refused(fault):
+    return 2, b"", f"chanhub: {fault}\n".encode()
+
+
+def table(name):
+    return tomllib.loads((ROOT / "tests" / (name + ".toml")).read_text())
+
+
+def journals(work):
+    """Each example, and random journals of each edition; and whether they are told by windows too."""
+    for path in sorted((ROOT / "examples" / "journals").iterdir()):
+        if not path.suffix:
+            yield path.name, path.read_text(), True
+    for third, name in ([], "random journal"), (["--third"], "random journal of the third edition"):
+        subprocess.run([ROOT / "tests" / "drive" / "random_journal.py", *third, "1", str(RANDOM_JOURNALS), work], check=True)
+        for seed in range(1, RANDOM_JOURNALS + 1):
+            yield f"{name} {seed}", (pathlib.Path(work) / f"journal_{seed}").read_text(), seed <= WINDOWED
+
+
+def with_clock(journal, draw):
+    """The journal of a hub with one process more, which is a clock, or nearly one."""
+    head, procs, *lines = journal.splitlines()
+    clock = int(procs.split()[1])
+    lines = [line for line in lines if not line.startswith(f"{clock} ")]
+    others = [*(f"{clock} cancel {pid}" for pid in range(clock)), f"0 cancel {clock}"]
+    for at in sorted(draw.sample(range(len(lines)), len(lines) // 4), reverse=True):
+        lines.insert(at, draw.choice([f"{clock} recv 0", f"{clock} select 3 r0", *draw.choices(others, k=3)]))
+    if draw.random() < 0.5:
+        lines.insert(0, f"{clock} recv 0")
+    if draw.random() < 0.5:
+        lines.append(f"{clock} {draw.choice(['exit', 'recv 1', 'make 0', 'close 1', 'select 0 r0 default', 'select 0 r0 r0'])}")
+    return "\n".join([head, f"procs {clock + 1}", *lines, ""])
+
+
+def clocks(program, work):
+    """Journals of hubs with a clock, and some that nearly have one."""
+    draw = random.Random(2)
+    have = 0
+    for name, journal, _ in journals(work):
+        if journal.startswith("chanhub journal 2") and "procs 64\n" not in journal:
+            journal = with_clock(journal, draw)
+            story = Story(journal)
+            have += story.clock >= 0
+            yield f"{name} with a clock", program.tells(journal, story, None)
+            coloured = 0, story.text(1, len(story.entries), True), b""
+            yield f"{name} with a clock, coloured", program.run(["story", "--color", "always"], journal.encode()) == coloured
+    yield f"some have a clock, not {have}", have > 20
+
+
+def texts(program, work):
+    draw = random.Random(1)
+    for name, journal, by_windows in journals(work):
+        story = Story(journal)
+        count = len(story.entries)
+        one = draw.randint(1, count)
+        yield name, program.tells(journal, story, None)
+        for window in ((1, count), (1, (count + 1) // 2), (one, one)) if by_windows else ():
+            yield f"{name}, steps {window[0]} to {window[1]}", program.tells(journal, story, window)
+
+
+def colours(program, work):
+    """In colours where these are asked for, or where the story goes to a terminal and the environment does not refuse them."""
+    for name, journal, by_windows in journals(work):
+        if by_windows:
+            story = Story(journal)
+            count = len(story.entries)
+            for when, coloured in (("always", True), ("never", False), ("auto", False)):
+                wanted = 0, story.text(1, count, coloured), b""
+                yield f"{name}, {when}", program.run(["story", "--color", when], journal.encode()) == wanted
+    for row in table("stories")["story"]:
+        journal, story = row["journal"].encode(), Story(row["journal"])
+        plain, coloured = (story.text(1, len(story.entries), is_so) for is_so in (False, True))
+        for words, environment, wanted in (
+            ([], {}, coloured),
+            ([], {"NO_COLOR": ""}, coloured),
+            ([], {"NO_COLOR": "1"}, plain),
+            ([], {"NO_COLOR": "no longer than one byte"}, plain),
+            (["--color=never"], {}, plain),
+            (["--color=always"], {"NO_COLOR": "1"}, coloured),
+            (["-o", "/dev/stdout"], {}, plain),
+        ):
+            yield f"{row['name']}, {words}, {environment}", program.run_in_terminal(["story", *words], journal, **environment) == wanted
+
+
+def worked(program, _):
+    """The stories that were written by hand: told by the program, and by story_model.py."""
+    for row in table("stories")["story"]:
+        wanted = row["text"].encode()
+        first, last = row.get("steps", (1, len(Story(row["journal"]).entries)))
+        words = ["story", *(str(step) for step in row.get("steps", ()))]
+        yield row["name"], program.run(words, row["journal"].encode()) == (0, wanted, b"")
+        yield row["name"] + " by story_model.py", Story(row["journal"]).text(first, last) == wanted
+
+
+def faulty_journals(program, _):
+    """The fault comes first, whatever steps are asked for."""
+    rows = table("faulty_journals")
+    for group in rows["group"]:
+        for name, line in group["lines"].items():
+            journal = (group["before"] + line + "\n" + group["after"]).encode()
+            yield name, program.run(["story"], journal) == refused(group["fault"])
+            yield name + " with steps", program.run(["story", "2", "1"], journal) == refused(group["fault"])
+    for fault, faulty in rows["texts"].items():
+        for text in faulty:
+            yield repr(text), program.run(["story"], text.encode()) == refused(fault)
+
+
+def devices(program, _):
+    journal = table("tool")["journal"].encode()
+    yield "a full device", program.run_to_full(["story"], journal) == (1, b"chanhub: write failed\n")
+    yield "a full device for one step", program.run_to_full(["story", "1", "1"], journal) == (1, b"chanhub: write failed\n")
+    yield "a fault before a full device", program.run_to_full(["story"]) == (2, b"chanhub: line 1: bad header\n")
+    yield "a folder for a journal", program.run_on_folder(["story"]) == (1, b"", b"chanhub: read failed\n")
+
+
+def each_refused(program, words, journal, refuse):
+    """What it does with its first allocation refused, then with its second, and so on, and last where nothing was refused."""
+    for number in range(1, MOST_ALLOCATIONS):
+        trace = refuse.with_name("refused")
+        trace.unlink(missing_ok=True)
+        yield program.run(words, journal, LD_PRELOAD=str(refuse), REFUSE=str(number), REFUSED=str(trace))
+        if not trace.exists():
+            return
+
+
+def survives_refusals(program, words, journal, refuse):
+    """With each allocation refused in turn it does the same, or tells that memory is wanting and nothing else."""
+    told = program.run(words, journal)
+    *done, last = each_refused(program, words, journal, refuse)
+    return done != [] and last == told and all(it in (told, (1, b"", NO_MEMORY)) for it in done)
+
+
+def begins_under_refusals(program, words, journal, refuse):
+    """So does what is written as it goes, but that a beginning of it is written by then, the longer the later memory is refused: at first
+    none, and at last some of it."""
+    told = program.run(words, journal)
+    *done, last = each_refused(program, words, journal, refuse)
+    begun = [it for it in done if it != told]
+    lengths = [len(written) for _, written, _ in begun]
+    fit = (it == (1, told[1][:length], NO_MEMORY) for it, length in zip(begun, lengths))
+    return last == told and all(fit) and lengths == sorted(lengths) and 0 == lengths[0] < lengths[-1] < len(told[1])
+
+
+def build_refuse(work):
+    """What stands before the allocator, to refuse."""
+    refuse = pathlib.Path(work) / "refuse.so"
+    flags = ["-O1", "-shared", "-fPIC", "-fno-builtin", "-o", refuse]
+    subprocess.run([os.environ.get("CC", "cc"), *flags, ROOT / "tests" / "drive" / "refuse.c"], check=True)
+    return refuse
+
+
+def refused_allocations(program, work):
+    refuse = build_refuse(work)
+    for row in table("stories")["story"]:
+        yield row["name"], survives_refusals(program, ["story"], row["journal"].encode(), refuse)
+
+
+def longest_journals(program, _):
+    """A journal has at most 1,000,000 entries that are no exits, and two of these have. Each is told within a minute."""
+    head = "chanhub journal 1\nprocs 1\n"
+    makes = head + "0 make 1025\n" * 1000000 + "0 exit\n"
+    values = range((1000000 - 64) // 2)
+    passing = "".join(f"0 send {value % 64 + 1} {value}\n0 recv {value % 64 + 1}\n" for value in values)
+    passing = head + "0 make 1\n" * 64 + passing + "0 exit\n"
+    # More of them than 16 bits count.
+    selects = head + "0 make 1\n" + "".join(f"0 select 0 s1:{value} r1\n" for value in range(70000))
+    for name, journal in (("makes", makes), ("passing of values", passing), ("selects", selects)):
+        yield f"a long journal of {name}", program.tells(journal, Story(journal), None)
+    yield "one entry more", program.run(["story"], (makes + "0 make 1025\n").encode()) == refused("line 1000004: too long")
+
+
+def most_entries(program, _):
+    """Exits are no steps, so a journal may have as many as it has bytes for. All but the first are refused."""
+    head = b"chanhub journal 1\nprocs 1\n"
+    exits = (MOST_BYTES - len(head)) // len(b"0 exit\n")
+    status, written, memory = program.memory(["story"], head + b"0 exit\n" * exits)
+    yield f"a line for each of {exits} exits", status == 0 and written > exits * len("9586976  P0 exit")
+    yield f"their story within {MOST_MEMORY} bytes of memory, not {memory}", memory <= MOST_MEMORY
+
+
+def count(program, *parts):
+    """Makes the checks of each part, prints those that fail and how many there were, and answers the status."""
+    # Nothing here holds itself, and to look through millions of entries for what does takes a third of the time.
+    gc.disable()
+    count = Count()
+    with tempfile.TemporaryDirectory() as work:
+        for checks in parts:
+            for name, good in checks(program, work):
+                count.test(f"{checks.__name__}: {name}", good)
+    return count.end()
+
+
+def main():
+    parts = worked, texts, clocks, colours, faulty_journals, devices, refused_allocations, longest_journals, most_entries
+    return count(Program(sys.argv[1]), *parts)
+
+
+if __name__ == "__main__":
+    sys.exit(main())

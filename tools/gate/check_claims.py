@@ -1,25 +1,17 @@
-#!/usr/bin/env python3
-"""Compares docs/CLAIMS.md and docs/SEMANTICS.md with the sources, and proves nothing.
-
-    check_claims.py
+"""Compares docs/CLAIMS.md and docs/SEMANTICS.md with the sources, for check_pages.py, and proves nothing.
 
 Tells what a page says in code, and the sources do not have: names; definitions, behind their files, as in `Steps`: `turn`; in a link to
 a source what does not stand there; and in CLAIMS, in brackets, clauses that the calls before them lack, as in `run` (`ok`).
 Each crate has a section of CLAIMS, or is one of those that these do not cover. Of the crates with a section tells the public calls
 without a doc comment, the edits whose line `call:` names none of them, and the public functions that no edit turns: but for those of the
 list under 'Edits', for laws, which have no body, and for the methods of traits, which have none there.
-Tells last where a crate's README names a file that is not there, or has a table of its files and leaves one out.
-The status is 1 where anything is told.
 """
 import functools
 import os
 import re
-import sys
 
-sys.dont_write_bytecode = True
-sys.path[:0] = [os.path.join(os.path.dirname(os.path.abspath(__file__)), it) for it in ('..', '../build')]
 from claims import files, public_calls, read, sources, specs_file
-from crates import ROOT, read_lines
+from crates import read_lines
 from edit_files import names_by_call
 
 SHORT = {name.removeprefix('hub_'): name for name in read_lines()}
@@ -127,27 +119,6 @@ def wrong_crates():
     yield from (f'no section on {crate}, which has calls without an edit' for crate in unturned)
 
 
-def wrong_files(crate):
-    """The files that a crate's README names are there; and where it lists them in a table, it lists them all."""
-    text = read(f'crates/{crate}/README.md')
-    there = {os.path.relpath(path, f'crates/{crate}/src').removesuffix('.rt') for path in sources(crate)}
-    named = set(re.findall(r'`src/([\w/]+?)(?:\.rt)?`', text)) | set(re.findall(r'`([\w/]+)\.rt`', text))
-    for name in sorted(named):
-        if name.removeprefix('src/') not in there and not os.path.exists(os.path.join(ROOT, 'crates', name + '.rt')):
-            yield f'no file {name}'
-    rows = set(re.findall(r'^(?:\| )?`src/([\w/]+?)(?:\.rt)?`[^|\n]* \|', text, re.M))
-    yield from (f'its list of files lacks {name}' for name in sorted(there - {'lib', 'main'} - rows if rows else ()))
-
-
-def main():
-    found = [f'{page}: {line}' for page in ('CLAIMS', 'SEMANTICS') for line in wrong_page(page)]
-    found += [f'CLAIMS: {line}' for line in wrong_crates()]
-    for crate in sorted(os.listdir(os.path.join(ROOT, 'crates'))):
-        if files(crate, 'README.md'):
-            found += [f'README of {crate}: {line}' for line in wrong_files(crate)]
-    print(''.join(line + '\n' for line in found), end='')
-    sys.exit(1 if found else 0)
-
-
-if __name__ == '__main__':
-    main()
+def wrong():
+    yield from (f'{page}: {line}' for page in ('CLAIMS', 'SEMANTICS') for line in wrong_page(page))
+    yield from (f'CLAIMS: {line}' for line in wrong_crates())

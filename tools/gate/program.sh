@@ -2,9 +2,8 @@
 # program.sh [PROGRAM [TOOL]]: runs the built program on the examples, journals and scenarios; on the rows of tests/; on
 # random journals beside the events that model.py makes of them, also cut, by cuts.py; on all schedules of scenarios, by explorations.py;
 # and with each of its allocations refused. Runs a hub's
-# tests and the live hub's, which `./test` has built, with theirs refused; compares model.py, CLAIMS, CHANGING, the links of pages and the quotations of
-# README with what they speak of; looks for limits that are written as numbers, and for definitions and proofs that are too
-# wide; counts the instructions of replays, where valgrind is there; tries a close by an end that receives; has each program
+# tests and the live hub's, which `./test` has built, with theirs refused; compares pages
+# with what they speak of; counts the instructions of replays, where valgrind is there; tries a close by an end that receives; has each program
 # refuse bad arguments; tries the words of the built chanhub_tool, converses with it, and compares its stories, pictures, diagrams
 # and traces with second readings, and pages that browsers show; sees that who waits sleeps, by sleeps.py; compares what is not built with what is; tries the scripts that build, by builds_test.py, and those
 # that look at scenarios, by scenarios_test.py; compares replays with Go's own channels; and builds and tries the C library.
@@ -223,26 +222,8 @@ count $? "waits that sleep: $(cat "$work/sleeps")"
 "$root/tools/gate/receivers_close_nothing.sh"
 count $? "a close by an end that receives"
 
-"$root/tools/gate/check_claims.py"
-count $? "docs/CLAIMS.md beside the sources"
-
-"$root/tools/gate/check_changing.py"
-count $? "docs/CHANGING.md beside the crates"
-
-"$root/tools/gate/check_links.py"
-count $? "links of pages"
-
-"$root/tools/gate/check_lists.py"
-count $? "lists of files in READMEs"
-
-"$root/tools/gate/check_limits.py"
-count $? "limits that are written as numbers"
-
-"$root/tools/gate/check_width.py"
-count $? "lines of definitions and proofs that are too wide"
-
-"$root/tools/gate/check_quotes.py"
-count $? "what pages quote"
+"$root/tools/gate/check_pages.py"
+count $? "pages beside the sources"
 
 "$root/tools/gate/edits_test.py" > "$work/edits_test" 2>&1
 count $? "how edits are judged: $(cat "$work/edits_test")"

@@ -28,6 +28,7 @@ sys.path[:0] = [str(ROOT / it) for it in ("tools", "tools/gate")]
 import model
 import random_journal
 from counting import Count
+from refusals import Refuser
 
 SVG = "{http://www.w3.org/2000/svg}"
 # after so many seconds a program is taken to hang; and a browser, or what is long, on a slow machine
@@ -35,7 +36,6 @@ WAIT, LONG = 60, 600
 RANDOM = 200
 # of these by windows too
 WINDOWED = 50
-MOST_ALLOCATIONS = 1000
 LAYERS = ["lane", "stall", "strip", "level", "whom", "arrow", "bar", "box"]
 FULL = 12
 # where lanes begin, and how much room a process has, how high its box is and how many steps a band has, by scale
@@ -617,29 +617,11 @@ def check_views(count, pictures):
 # ---- refused allocations
 
 
-def survives_refusals(program, journal, refuse):
-    """With each allocation refused in turn the picture is drawn, or that memory is wanting and nothing else."""
-    wanted = output_of([program, "picture"], journal)
-    trace = refuse.with_name("refused")
-    for number in range(1, MOST_ALLOCATIONS):
-        trace.unlink(missing_ok=True)
-        surroundings = {**os.environ, "LD_PRELOAD": str(refuse), "REFUSE": str(number), "REFUSED": str(trace)}
-        done = subprocess.run([program, "picture"], input=journal, capture_output=True, timeout=WAIT, env=surroundings)
-        told = done.returncode, done.stdout, done.stderr
-        if not trace.exists():
-            return number > 1 and told == (0, wanted, b"")
-        if told not in ((0, wanted, b""), (1, b"", b"chanhub: out of memory\n")):
-            return False
-    return False
-
-
 def check_refusals(count, program, journals):
     with tempfile.TemporaryDirectory() as work:
-        refuse = pathlib.Path(work) / "refuse.so"
-        flags = ["-O1", "-shared", "-fPIC", "-fno-builtin", "-o", refuse]
-        subprocess.run([os.environ.get("CC", "cc"), *flags, ROOT / "tests" / "drive" / "refuse.c"], check=True)
+        refuser = Refuser(work)
         for path in journals:
-            count.test(f"{path.name} with refused allocations", survives_refusals(program, path.read_bytes(), refuse))
+            count.test(f"{path.name} with refused allocations", refuser.survives([program, "picture"], path.read_bytes()))
 
 
 # ---- what it costs

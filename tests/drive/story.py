@@ -20,14 +20,13 @@ sys.dont_write_bytecode = True
 ROOT = pathlib.Path(__file__).resolve().parents[2]
 sys.path[:0] = [str(ROOT / it) for it in ("tools/gate", "tests/oracle")]
 from counting import Count
+from refusals import NO_MEMORY, Refuser
 from story_model import Story
 
 RANDOM_JOURNALS = 200
 # of these by windows too
 WINDOWED = 50
 MINUTE = 60
-MOST_ALLOCATIONS = 1000
-NO_MEMORY = b"chanhub: out of memory\n"
 MOST_BYTES = 67_108_864
 # the most memory for the story of a journal of so many bytes that has the most entries
 MOST_MEMORY = 1_000_000_000
@@ -227,46 +226,25 @@ def devices(program, _):
     yield "a folder for a journal", program.run_on_folder(["story"]) == (1, b"", b"chanhub: read failed\n")
 
 
-def each_refused(program, words, journal, refuse):
-    """What it does with its first allocation refused, then with its second, and so on, and last where nothing was refused."""
-    for number in range(1, MOST_ALLOCATIONS):
-        trace = refuse.with_name("refused")
-        trace.unlink(missing_ok=True)
-        yield program.run(words, journal, LD_PRELOAD=str(refuse), REFUSE=str(number), REFUSED=str(trace))
-        if not trace.exists():
-            return
+def survives_refusals(program, words, journal, refuser):
+    return refuser.survives([program.path, *words], journal)
 
 
-def survives_refusals(program, words, journal, refuse):
-    """With each allocation refused in turn it does the same, or tells that memory is wanting and nothing else."""
-    told = program.run(words, journal)
-    *done, last = each_refused(program, words, journal, refuse)
-    return done != [] and last == told and all(it in (told, (1, b"", NO_MEMORY)) for it in done)
-
-
-def begins_under_refusals(program, words, journal, refuse):
+def begins_under_refusals(program, words, journal, refuser):
     """So does what is written as it goes, but that a beginning of it is written by then, the longer the later memory is refused: at first
     none, and at last some of it."""
     told = program.run(words, journal)
-    *done, last = each_refused(program, words, journal, refuse)
+    *done, last = refuser.each([program.path, *words], given=journal)
     begun = [it for it in done if it != told]
     lengths = [len(written) for _, written, _ in begun]
-    fit = (it == (1, told[1][:length], NO_MEMORY) for it, length in zip(begun, lengths))
+    fit = (it == (1, told[1][:length], NO_MEMORY[2]) for it, length in zip(begun, lengths))
     return last == told and all(fit) and lengths == sorted(lengths) and 0 == lengths[0] < lengths[-1] < len(told[1])
 
 
-def build_refuse(work):
-    """What stands before the allocator, to refuse."""
-    refuse = pathlib.Path(work) / "refuse.so"
-    flags = ["-O1", "-shared", "-fPIC", "-fno-builtin", "-o", refuse]
-    subprocess.run([os.environ.get("CC", "cc"), *flags, ROOT / "tests" / "drive" / "refuse.c"], check=True)
-    return refuse
-
-
 def refused_allocations(program, work):
-    refuse = build_refuse(work)
+    refuser = Refuser(work)
     for row in table("stories")["story"]:
-        yield row["name"], survives_refusals(program, ["story"], row["journal"].encode(), refuse)
+        yield row["name"], survives_refusals(program, ["story"], row["journal"].encode(), refuser)
 
 
 def longest_journals(program, _):

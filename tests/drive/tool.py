@@ -8,7 +8,8 @@ import subprocess
 import sys
 
 sys.dont_write_bytecode = True
-from story import ROOT, Program, build_refuse, count, refused, survives_refusals, table
+from refusals import Refuser
+from story import ROOT, Program, count, refused, survives_refusals, table
 from story_model import Story
 
 ROWS = table("tool")
@@ -132,7 +133,7 @@ def chains(program, work):
             yield " ".join(files), program.run(["chain", *files], given, path) == wanted
     full = [str(path / name) for name in ("first", "second")]
     yield "a full device", program.run_to_full(["chain", *full]) == (1, b"chanhub: write failed\n")
-    yield "refused allocations", survives_refusals(program, ["chain", *full, "-"], ROWS["chapters"]["third"].encode(), build_refuse(work))
+    yield "refused allocations", survives_refusals(program, ["chain", *full, "-"], ROWS["chapters"]["third"].encode(), Refuser(work))
 
 
 def stalls(program, path, entries):
@@ -169,9 +170,9 @@ def explorations(program, work):
         found.unlink()
     for name in ("idle", "alone"):
         yield f"{name} for a full device", program.run_to_full(["explore", str(path / name)]) == (1, b"chanhub: write failed\n")
-    refuse = build_refuse(work)
+    refuser = Refuser(work)
     for name in ("polls", "alone", "bad_script"):
-        yield f"{name}: refused allocations", survives_refusals(program, ["explore", str(path / name), "--journal", "-"], b"", refuse)
+        yield f"{name}: refused allocations", survives_refusals(program, ["explore", str(path / name), "--journal", "-"], b"", refuser)
 
 
 def help_texts(program, work):
@@ -202,10 +203,10 @@ def little_stack(program, work):
 
 
 def refused_allocations(program, work):
-    refuse = build_refuse(work)
+    refuser = Refuser(work)
     for words in (["story", "1", "-"], ["picture", "1"], ["mermaid", "1"], ["trace"], ["serve"], ["--help"], ["story", "--help"], ["--version"]):
-        yield " ".join(words), survives_refusals(program, words, JOURNAL, refuse)
-    yield "bad arguments", survives_refusals(program, ["story", "--bad"], JOURNAL, refuse)
+        yield " ".join(words), survives_refusals(program, words, JOURNAL, refuser)
+    yield "bad arguments", survives_refusals(program, ["story", "--bad"], JOURNAL, refuser)
 
 
 def main():

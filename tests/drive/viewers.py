@@ -16,7 +16,8 @@ sys.path[:0] = [str(pathlib.Path(__file__).resolve().parents[2] / it) for it in 
 import model
 import page
 import story_model
-from story import RANDOM_JOURNALS, WINDOWED, Program, begins_under_refusals, build_refuse, count, journals, refused, survives_refusals, table
+from refusals import Refuser
+from story import RANDOM_JOURNALS, WINDOWED, Program, begins_under_refusals, count, journals, refused, survives_refusals, table
 
 MOST_STEPS = 200
 # a page of a million steps takes so many bytes of memory more than the story of one of them at most; its text has thirty times as many
@@ -335,11 +336,11 @@ def faults(program, _):
 
 
 def refused_allocations(program, work):
-    refuse = build_refuse(work)
+    refuser = Refuser(work)
     for row in table("viewers")["row"]:
         for command in ("mermaid", "trace"):
-            yield f"{row['name']}: {command}", survives_refusals(program, [command], row["journal"].encode(), refuse)
-        yield f"{row['name']}: page", begins_under_refusals(program, ["page"], row["journal"].encode(), refuse)
+            yield f"{row['name']}: {command}", survives_refusals(program, [command], row["journal"].encode(), refuser)
+        yield f"{row['name']}: page", begins_under_refusals(program, ["page"], row["journal"].encode(), refuser)
 
 
 def main():

@@ -1,4 +1,4 @@
-//! What stays where memory, or the start of a thread, is refused. The gate has both; `tests/drive/live_refusals.sh` runs these
+//! What stays where memory, or the start of a thread, is refused. The gate has both; `tests/drive/refusals.py` runs these
 //! tests with each of their allocations refused that comes after `begin`, and that of a crew with each start too.
 
 ghost use Rattle.std.specs.Prelude.{◌≡◌, All, vec_len};

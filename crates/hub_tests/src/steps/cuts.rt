@@ -1,5 +1,5 @@
 //! A hub that was cut answers as the one that was not, and so does a hub that cuts itself. The gate has memory;
-//! `tests/drive/hub_refusals.sh` runs `refused_chapters_are_begun_again` with its allocations refused that come after `begin`.
+//! `tests/drive/refusals.py` runs `refused_chapters_are_begun_again` with its allocations refused that come after `begin`.
 
 use super::entries::{
     Ask, DONE, MADE, MADE_SECOND, PARKED, SENT, Told, are_told, entry_of, is_made,

@@ -1,4 +1,4 @@
-//! What stays of a hub where memory is refused. The gate has memory; `tests/drive/hub_refusals.sh` runs these tests with
+//! What stays of a hub where memory is refused. The gate has memory; `tests/drive/refusals.py` runs these tests with
 //! their allocations refused that come after `begin`.
 
 use super::entries::{Ask, DONE, MADE, MADE_SECOND, PARKED, SENT, STALLED, Told, event_of};

@@ -1,0 +1,57 @@
+#!/usr/bin/env python3
+"""from_sources.py PROGRAM: whether ./chanhub in a tree where nothing is built does what the built chanhub (PROGRAM) does, but for its own
+lines on standard error. The last line counts: 'N passed, M failed'."""
+import os
+import pathlib
+import re
+import shutil
+import subprocess
+import sys
+import tempfile
+
+sys.dont_write_bytecode = True
+ROOT = pathlib.Path(__file__).resolve().parents[2]
+sys.path.insert(0, str(ROOT / 'tools/gate'))
+from counting import Count
+
+PARTS = ('chanhub', 'crates', 'crates.txt', 'examples', 'tests', 'tools')
+UNPROVED = re.compile(rb'^chanhub: from sources.*, not proved: .*\n', re.M)
+HELP = re.compile(rb'^\./chanhub: .*\n', re.M)
+
+
+def told(program, words, tree):
+    with open(ROOT / 'examples' / 'journals' / 'pipeline', 'rb') as given:
+        done = subprocess.run([program, *words], cwd=tree / 'examples', stdin=given, capture_output=True)
+    return done.returncode, done.stdout, done.stderr
+
+
+def is_same(program, words, tree):
+    status, output, errors = told(tree / 'chanhub', words, tree)
+    own = HELP.sub(b'', UNPROVED.sub(b'', errors))
+    return (status, output, own) == told(program, words, tree) and len(UNPROVED.findall(errors)) == 1
+
+
+def main():
+    program = os.path.abspath(sys.argv[1])
+    count = Count()
+    with tempfile.TemporaryDirectory() as work:
+        tree = pathlib.Path(work) / 'a tree'
+        tree.mkdir()
+        for name in PARTS:
+            source = ROOT / name
+            if source.is_dir():
+                shutil.copytree(source, tree / name, ignore=shutil.ignore_patterns('out'), symlinks=True)
+            else:
+                shutil.copy2(source, tree / name)
+        scenarios = [['run', f'scenarios/{it.stem}'] for it in sorted((ROOT / 'examples' / 'scenarios').glob('*.stdout'))]
+        for words in (*scenarios, ['replay'], ['verify', 'journals/pipeline', 'journals/pipeline.stdout'],
+                      ['verify', 'journals/pipeline', 'scenarios/ring'], ['run', 'missing'], ['run', 'README.md'], ['run', '--journal']):
+            count.test(' '.join(words), is_same(program, words, tree))
+        explain = [tree / 'tools' / 'explain.sh', '--every', 'philosophers']
+        done = subprocess.run(explain, cwd=tree / 'examples', env={**os.environ, 'TMPDIR': work, 'OPENER': ':'}, capture_output=True)
+        count.test('explain.sh --every', done.stdout.startswith(b'stall after 10 steps\n'), done.stderr)
+    return count.end()
+
+
+if __name__ == '__main__':
+    sys.exit(main())

@@ -7,11 +7,12 @@ Prints a line for each fault, `FILE:LINE:COLUMN: what is wrong`, by place: of it
 steps. Lines and columns are counted from 1, columns in characters. Status 0 where there is none, which is where `chanhub run` takes the
 file; 1 where there are faults; 2 where the file cannot be read, or other words are given.
 
-It reads TOML 1.1 itself, since Python's `tomllib` reads 1.0 and does not say where a value stands; docs/FORMATS.md has the rules of a
-scenario.
+Python's `tomllib` says what is wrong with the TOML. Scenarios are TOML 1.1 and it reads 1.0, so it does not see what only 1.1 has.
+docs/FORMATS.md has the rules of a scenario.
 """
 import re
 import sys
+import tomllib
 
 MOST_FILE_BYTES = 1_048_576
 GREATEST_SEED = 2 ** 63 - 1
@@ -24,32 +25,25 @@ MOST_CASES = 16
 GREATEST_PORT = 65535
 GREATEST_VALUE = 2 ** 64 - 1
 MOST_VALUE_DIGITS = 64
-# The most parts of a key, and the most arrays and inline tables in one another.
-MOST_DEPTH = 80
 
-# What made a table: a header that passed through it, a dotted key, its own header; and an array of tables, headers in double brackets.
-# A value has none: it is complete.
-IMPLICIT, DOTTED, HEADER, TABLES = range(4)
-
-SPACES = re.compile(rb'[ \t]*')
-BLANK = re.compile(rb'(?:[ \t\n]|\r\n|#(?:[\t\x20-\x7e\x80-\xff])*)*')
-LINES = re.compile(rb'(?:[ \t\n]|\r\n)*')
-BARE = re.compile(rb'[A-Za-z0-9_-]+')
-WORD = re.compile(rb'[A-Za-z0-9_+.:-]*')
-PLAIN = {b'"': re.compile(rb'[\t\x20\x21\x23-\x5b\x5d-\x7e\x80-\xff]+'), b"'": re.compile(rb'[\t\x20-\x26\x28-\x7e\x80-\xff]+')}
-ESCAPES = {b'b': 8, b'e': 27, b'f': 12, b'n': 10, b'r': 13, b't': 9, b'"': 34, b'\\': 92}
-HEX_DIGITS = {b'x': 2, b'u': 4, b'U': 8}
-DECIMAL = re.compile(rb'(0|[1-9][0-9]*)((?:\.[0-9]+)?(?:[eE][+-]?[0-9]+)?)')
-PREFIXED = {b'0x': (16, rb'[0-9a-fA-F]+'), b'0o': (8, rb'[0-7]+'), b'0b': (2, rb'[01]+')}
-TIME = rb'(\d\d):(\d\d)(?::(\d\d)(?:\.\d+)?)?'
-LOCAL_TIME = re.compile(TIME)
-DATE = re.compile(rb'(\d{4})-(\d\d)-(\d\d)(?:[Tt ]' + TIME + rb'(?:[Zz]|[+-](\d\d):(\d\d))?)?')
-NUMERAL = re.compile(rb'0|[1-9][0-9]*')
-DIGITS_OF_BYTES = re.compile(rb'(?:[0-9a-f][0-9a-f])*')
+BLANK = r'[ \t\r\n]+|#[^\n]*'
+STRING = '|'.join((r'"""(?:[^"\\]|\\.|"{1,2}(?!"))*"{3,5}', r"'{3}(?:[^']|'{1,2}(?!'))*'{3,5}", r'"(?:[^"\\\n]|\\[^\n])*"', r"'[^'\n]*'"))
+WORD_CHARACTERS = r'''[^\s[\]{}=,"'#]'''
+# A space joins a date and a time.
+WORD = rf'\d{{4}}-\d\d-\d\d \d{WORD_CHARACTERS}*|{WORD_CHARACTERS}+'
+TOKEN = re.compile(rf'(?P<blank>{BLANK})|(?P<string>{STRING})|(?P<mark>[][{{}}=,])|(?P<word>{WORD})|(?P<other>.)', re.S)
+LAST_COMMA = re.compile(rf',(?:{BLANK})*}}')
+ONLY_NEWER = re.compile(r'\\(?:x[0-9a-fA-F]{2}|.)', re.S)
+CHARACTER = re.compile(r'\\(?:x(..)|u(.{4})|U(.{8})|([ \t]*\r?\n[ \t\r\n]*)|(.))|.', re.S)
+ESCAPED = dict(zip('befnrt', '\b\x1b\f\n\r\t'))
+PLACE = re.compile(r'(.*) \(at line (\d+), column (\d+)\)', re.S)
+NUMERAL = re.compile(r'0|[1-9][0-9]*')
+DIGITS_OF_BYTES = re.compile(r'(?:[0-9a-f][0-9a-f])*')
+NAMES = {int: 'a whole number', list: 'an array', dict: 'a table', str: 'a string', bool: 'a boolean', float: 'a float'}
 
 
 class Fault(Exception):
-    """What is wrong, and at which byte."""
+    """What is wrong, and at which character."""
 
     def __init__(self, at, text):
         super().__init__(text)
@@ -57,332 +51,153 @@ class Fault(Exception):
 
 
 class Value:
-    """What stands at a key or in an array. `places` has, of a string, where each of its bytes stands in the file, and its end."""
+    """What stands at a key or in an array. `places` has, of a string, where each of its characters stands in the file, and its end."""
 
-    def __init__(self, kind, data, at, origin=None, places=None):
-        self.kind = kind
+    def __init__(self, data, at, places=()):
         self.data = data
-        self.at = at
-        self.origin = origin
+        self.at = self.key_at = at
         self.places = places
-        self.key_at = at
+
+
+def named(value):
+    return NAMES.get(type(value.data), 'a datetime')
 
 
 def shown(text):
-    """Bytes of the file, for a message."""
-    said = text.decode(errors='replace')
-    return '`%s`' % (said if len(said) <= 60 else said[:60] + '..')
+    """A part of the file, for a message."""
+    return '`%s`' % (text if len(text) <= 60 else text[:60] + '..')
 
 
-class Toml:
-    """Reads a text from a place on: each `read_` starts at `self.at`, and leaves it behind what it read."""
+def hide(escape):
+    return '.' * len(escape[0]) if escape[0] == r'\e' or len(escape[0]) == 4 else escape[0]
+
+
+def as_older(text):
+    """The text, as long, without what only TOML 1.1 has: two escapes; and in tables in braces newlines, comments and a last comma."""
+    pieces, inside, last = [], [], ''
+    for token in TOKEN.finditer(text):
+        piece, is_in_braces = token[0], inside[-1:] == ['{']
+        if piece.startswith('"'):
+            piece = ONLY_NEWER.sub(hide, piece)
+        elif is_in_braces and (token['blank'] or piece == ',' and last not in '{,' and LAST_COMMA.match(text, token.start())):
+            piece = ' ' * len(piece)
+        elif piece in '[{':
+            inside.append(piece)
+        elif piece in ']}':
+            del inside[-1:]
+        last = last if token['blank'] else piece
+        pieces.append(piece)
+    return ''.join(pieces)
+
+
+def wrong_toml(text):
+    """The first fault of the TOML, or nothing."""
+    older = as_older(text)
+    try:
+        tomllib.loads(older)
+    except (ValueError, RecursionError) as error:
+        found = PLACE.fullmatch(str(error))
+        if not found:
+            # At the end, or of a number or a nesting that Python does not take.
+            return Fault(len(text) if 'end of document' in str(error) else 0, str(error))
+        lines = older.split('\n')[:int(found[2]) - 1]
+        return Fault(sum(len(line) + 1 for line in lines) + int(found[3]) - 1, found[1])
+    return None
+
+
+def read_string(token, at):
+    size = 3 if token[:3] in ('"""', "'''") else 1
+    begin = size + (re.match(r'\r?\n|', token[size:]).end() if size == 3 else 0)
+    if token[0] == "'":
+        data = token[begin:-size]
+        return Value(data, at, range(at + begin, at + begin + len(data) + 1))
+    text, places = '', []
+    for found in CHARACTER.finditer(token, begin, len(token) - size):
+        digits = found[1] or found[2] or found[3]
+        if not found[4]:
+            text += chr(int(digits, 16)) if digits else ESCAPED.get(found[5], found[5]) or found[0]
+            places.append(at + found.start())
+    return Value(text, at, [*places, at + len(token) - size])
+
+
+def read_word(word, at):
+    try:
+        return Value(int(word, 0), at)
+    except ValueError:
+        return Value(tomllib.loads('word = ' + word)['word'], at)
+
+
+class Reader:
+    """Reads a text that is TOML, with the places of all."""
 
     def __init__(self, text):
-        self.text = text
-        self.at = 3 if text.startswith(b'\xef\xbb\xbf') else 0
+        self.tokens = [(found[0], found.start()) for found in TOKEN.finditer(text) if not found['blank']]
+        self.tokens.reverse()
 
-    def here(self, size=1):
-        return self.text[self.at:self.at + size]
-
-    def skip(self, pattern):
-        self.at = pattern.match(self.text, self.at).end()
-
-    def starts_newline(self):
-        return self.here() == b'\n' or self.here(2) == b'\r\n'
-
-    def want(self, byte, text):
-        if self.here() != byte:
-            raise Fault(self.at, text)
-        self.at += 1
+    def next(self):
+        return self.tokens[-1][0]
 
     def read_document(self):
-        """The table that the text is."""
-        root = Value('table', {}, self.at, HEADER)
-        self.skip(BLANK)
-        table = root
-        while self.at < len(self.text):
-            if self.here() == b'[':
+        root = table = Value({}, 0)
+        while self.tokens:
+            if self.next() == '[':
                 table = self.read_header(root)
             else:
                 self.read_pair(table)
-            self.skip(SPACES)
-            if self.here() not in (b'', b'#', b'\n', b'\r'):
-                raise Fault(self.at, 'one thing too many on the line')
-            self.skip(BLANK)
         return root
 
-    def read_header(self, root):
+    def read_header(self, table):
         """The table that is filled behind this header."""
-        brackets = self.here(2) if self.here(2) == b'[[' else b'['
-        at = self.at
-        self.at += len(brackets)
-        self.skip(SPACES)
-        *path, (last, last_at) = self.read_key()
-        for _ in brackets:
-            self.want(b']', 'a header ends with %s' % shown(b']' * len(brackets)))
-        table = root
-        for key, key_at in path:
-            table = self.pass_header(table, key, key_at)
-        return self.define_table(table, last, last_at, at, len(brackets) == 2)
+        _, at = self.tokens.pop()
+        is_element = self.next() == '['
+        *path, last = self.read_key('[', ']')
+        for key in path:
+            table = self.pass_key(table, *key)
+        if not is_element:
+            return self.pass_key(table, *last)
+        self.tokens.pop()
+        array = table.data.setdefault(last[0], Value([], at))
+        array.data.append(Value({}, at))
+        return array.data[-1]
 
-    def pass_header(self, table, key, at):
-        found = table.data.get(key)
-        if found is None:
-            found = table.data[key] = Value('table', {}, at, IMPLICIT)
-        if found.origin is None:
-            raise Fault(at, '%s is a value, and no table' % shown(key))
-        return found.data[-1] if found.origin == TABLES else found
+    def pass_key(self, table, key, at):
+        found = table.data.setdefault(key, Value({}, at))
+        return found.data[-1] if isinstance(found.data, list) else found
 
-    def define_table(self, table, key, key_at, at, is_element):
-        found = table.data.get(key)
-        new = Value('table', {}, at, HEADER)
-        if found is None:
-            table.data[key] = Value('array', [new], at, TABLES) if is_element else new
-            table.data[key].key_at = key_at
-            return new
-        if is_element and found.origin == TABLES:
-            found.data.append(new)
-            return new
-        if not is_element and found.origin == IMPLICIT:
-            found.origin = HEADER
-            return found
-        raise Fault(key_at, '%s stands twice' % shown(key))
+    def read_key(self, *marks):
+        """Its parts, each with its place, and what ends it."""
+        parts = []
+        while (token := self.tokens.pop())[0] != marks[-1]:
+            word, at = token
+            if word[0] in '"\'':
+                parts.append((read_string(word, at).data, at))
+            elif word not in marks:
+                parts += [(part, at) for part in word.split('.') if part]
+        return parts
 
     def read_pair(self, table):
-        """A key and its value, into this table."""
-        *path, (last, last_at) = self.read_key()
-        self.want(b'=', 'a key is followed by `=`')
-        self.skip(SPACES)
-        value = self.read_value(self.depth)
-        for key, key_at in path:
-            table = self.pass_dot(table, key, key_at)
-        if last in table.data:
-            raise Fault(last_at, '%s stands twice' % shown(last))
-        value.key_at = last_at
-        table.data[last] = value
+        *path, (last, at) = self.read_key('=')
+        for key in path:
+            table = self.pass_key(table, *key)
+        table.data[last] = self.read_value()
+        table.data[last].key_at = at
 
-    def pass_dot(self, table, key, at):
-        found = table.data.get(key)
-        if found is None:
-            found = table.data[key] = Value('table', {}, at, DOTTED)
-        if found.origin not in (IMPLICIT, DOTTED):
-            raise Fault(at, '%s stands elsewhere already' % shown(key))
-        found.origin = DOTTED
-        return found
+    def read_value(self):
+        token, at = self.tokens.pop()
+        if token == '[':
+            return self.read_inside(Value([], at), ']', lambda array: array.data.append(self.read_value()))
+        if token == '{':
+            return self.read_inside(Value({}, at), '}', self.read_pair)
+        return read_string(token, at) if token[0] in '"\'' else read_word(token, at)
 
-    def read_key(self):
-        """Its parts, each with its place, and the white space behind it."""
-        parts = []
-        while True:
-            at = self.at
-            if len(parts) == MOST_DEPTH:
-                raise Fault(at, 'a key has at most %d parts' % MOST_DEPTH)
-            if self.here() in (b'"', b"'"):
-                parts.append((self.read_string(self.here(), False).data, at))
-            elif BARE.match(self.text, at):
-                self.skip(BARE)
-                parts.append((self.text[at:self.at], at))
+    def read_inside(self, value, closing, read_one):
+        while self.next() != closing:
+            if self.next() == ',':
+                self.tokens.pop()
             else:
-                raise Fault(at, 'a key belongs here')
-            self.skip(SPACES)
-            if self.here() != b'.':
-                return parts
-            self.at += 1
-            self.skip(SPACES)
-
-    # how many arrays and inline tables more may stand in one another, where a key's value begins
-    depth = MOST_DEPTH
-
-    def read_value(self, depth):
-        at = self.at
-        if self.here() in (b'[', b'{') and depth == 0:
-            raise Fault(at, 'at most %d arrays and tables stand in one another' % MOST_DEPTH)
-        if self.here() == b'[':
-            return self.read_array(depth - 1)
-        if self.here() == b'{':
-            return self.read_inline_table(depth - 1)
-        if self.here() in (b'"', b"'"):
-            quote = self.here()
-            return self.read_string(quote, self.here(3) == quote * 3)
-        return self.read_word()
-
-    def read_array(self, depth):
-        array = Value('array', [], self.at)
-        self.at += 1
-        while True:
-            self.skip(BLANK)
-            if self.here() == b']':
-                self.at += 1
-                return array
-            array.data.append(self.read_value(depth))
-            self.end_element(b']', 'an element of an array is followed by `,` or `]`')
-
-    def read_inline_table(self, depth):
-        table = Value('table', {}, self.at, HEADER)
-        self.at += 1
-        outside, self.depth = self.depth, depth
-        while True:
-            self.skip(BLANK)
-            if self.here() == b'}':
-                self.at += 1
-                break
-            self.read_pair(table)
-            self.end_element(b'}', 'a value in a table in braces is followed by `,` or `}`')
-        self.depth = outside
-        # It is complete.
-        table.origin = None
-        return table
-
-    def end_element(self, closing, text):
-        self.skip(BLANK)
-        if self.here() == b',':
-            self.at += 1
-        elif self.here() != closing:
-            raise Fault(self.at, text)
-
-    def read_string(self, quote, is_long):
-        began = self.at
-        self.at += 3 if is_long else 1
-        if is_long and self.starts_newline():
-            self.at += 1 if self.here() == b'\n' else 2
-        text, places = bytearray(), []
-
-        def take(piece, at, step):
-            text.extend(piece)
-            places.extend(range(at, at + len(piece)) if step else [at] * len(piece))
-
-        while True:
-            plain = PLAIN[quote].match(self.text, self.at)
-            if plain:
-                take(plain[0], self.at, 1)
-                self.at = plain.end()
-            here = self.here()
-            if here == quote:
-                count = len(re.compile(quote + b'+').match(self.text, self.at)[0])
-                if not is_long or count == 3:
-                    places.append(self.at)
-                    self.at += 3 if is_long else 1
-                    break
-                if count > 5:
-                    raise Fault(self.at + 5, 'a quotation mark too many')
-                take(quote, self.at, 1)
-                self.at += 1
-            elif here == b'\\':
-                at = self.at
-                take(self.read_escape(is_long), at, 0)
-            elif is_long and self.starts_newline():
-                take(here, self.at, 1)
-                self.at += 1
-                if here == b'\r':
-                    take(b'\n', self.at, 1)
-                    self.at += 1
-            elif here == b'':
-                raise Fault(began, 'this text does not end')
-            elif here == b'\n' or self.here(2) == b'\r\n':
-                raise Fault(began, 'this text does not end on its line')
-            else:
-                raise Fault(self.at, 'a control character, which no text may have')
-        return Value('string', bytes(text), began, None, places)
-
-    def read_escape(self, is_long):
-        """The bytes that stand for a backslash and what follows."""
-        at = self.at
-        self.at += 1
-        if is_long:
-            letter = self.at
-            self.skip(SPACES)
-            if self.starts_newline():
-                self.skip(LINES)
-                return b''
-            self.at = letter
-        letter = self.here()
-        self.at += 1
-        if letter in ESCAPES:
-            return bytes([ESCAPES[letter]])
-        size = HEX_DIGITS.get(letter)
-        if size is None:
-            raise Fault(at, 'a backslash and what follows are no escape')
-        digits = self.here(size)
-        self.at += size
-        if not re.fullmatch(rb'[0-9a-fA-F]{%d}' % size, digits):
-            raise Fault(at, '%s is followed by %d hexadecimal digits' % (shown(b'\\' + letter), size))
-        code = int(digits, 16)
-        if code > 0x10FFFF or 0xD800 <= code < 0xE000:
-            raise Fault(at, 'this escape is no character')
-        return chr(code).encode()
-
-    def read_word(self):
-        """A boolean, a number or a date-time."""
-        at = self.at
-        self.skip(WORD)
-        # A space joins a date and a time.
-        if re.compile(rb' [0-9]').match(self.text, self.at):
-            self.at += 1
-            self.skip(WORD)
-        word = self.text[at:self.at]
-        if not word:
-            raise Fault(at, 'a value belongs here')
-        return Value(*value_of_word(word, at), at)
-
-
-def value_of_word(word, at):
-    """The kind and the value."""
-    if word in (b'true', b'false'):
-        return 'boolean', word == b'true'
-    if re.match(rb'[0-9]+[-:]', word):
-        if not is_datetime(word):
-            raise Fault(at, '%s is no date and no time' % shown(word))
-        return 'datetime', word
-    is_hexadecimal = word.startswith(b'0x')
-    digit = rb'[0-9a-fA-F]' if is_hexadecimal else rb'[0-9]'
-    if re.search(rb'(?<!%s)_|_(?!%s)' % (digit, digit), word):
-        raise Fault(at, '%s is no value: an underscore stands between digits' % shown(word))
-    plain = word.replace(b'_', b'')
-    if plain[:2] in PREFIXED:
-        base, digits = PREFIXED[plain[:2]]
-        if not re.fullmatch(digits, plain[2:]):
-            raise Fault(at, '%s is no number' % shown(word))
-        return integer(int(plain[2:], base), word, at)
-    bare = plain[1:] if plain[:1] in (b'+', b'-') else plain
-    if bare in (b'inf', b'nan'):
-        return 'float', float(bare)
-    found = DECIMAL.fullmatch(bare)
-    if not found:
-        raise Fault(at, '%s is no value: a text stands in quotation marks' % shown(word))
-    if found[2]:
-        if float(bare) == float('inf'):
-            raise Fault(at, '%s is too large' % shown(word))
-        return 'float', float(bare)
-    # Python refuses to read more digits than these, which no number of 64 bits has.
-    number = int(bare) if len(bare) < 30 else 10 ** 29
-    return integer(-number if plain.startswith(b'-') else number, word, at)
-
-
-def integer(number, word, at):
-    if not -2 ** 63 <= number < 2 ** 63:
-        raise Fault(at, '%s does not fit into 64 bits with a sign' % shown(word))
-    return 'integer', number
-
-
-def is_datetime(word):
-    if word[2:3] == b':':
-        found = LOCAL_TIME.fullmatch(word)
-        return bool(found) and is_time(*found.groups())
-    found = DATE.fullmatch(word)
-    if not found:
-        return False
-    year, month, day = (int(it) for it in found.groups()[:3])
-    is_leap = year % 4 == 0 and (year % 100 != 0 or year % 400 == 0)
-    days = [31, 29 if is_leap else 28, 31, 30, 31, 30, 31, 31, 30, 31, 30, 31]
-    if not (1 <= month <= 12 and 1 <= day <= days[month - 1]):
-        return False
-    hour, minute, second, hours, minutes = found.groups()[3:]
-    return (hour is None or is_time(hour, minute, second)) and (hours is None or int(hours) < 24 and int(minutes) < 60)
-
-
-def is_time(hour, minute, second):
-    # A minute may have a leap second.
-    return int(hour) < 24 and int(minute) < 60 and int(second or 0) < 61
+                read_one(value)
+        self.tokens.pop()
+        return value
 
 
 class Scenario:
@@ -395,17 +210,17 @@ class Scenario:
         self.faults.append(Fault(at, text))
 
     def look(self, root):
-        known = {b'seed', b'limit', b'journal', b'ports', b'process'}
+        known = {'seed', 'limit', 'journal', 'ports', 'process'}
         self.look_at_keys(root, known, 'a scenario has the keys seed, limit, journal, ports and process')
-        self.look_at_number(root, b'seed', 0, GREATEST_SEED)
-        self.look_at_number(root, b'limit', 1, MOST_STEPS)
-        self.look_at_number(root, b'journal', 1, 2)
-        ports = self.array_at(root, b'ports', 'the file')
+        self.look_at_number(root, 'seed', 0, GREATEST_SEED)
+        self.look_at_number(root, 'limit', 1, MOST_STEPS)
+        self.look_at_number(root, 'journal', 1, 2)
+        ports = self.array_at(root, 'ports', 'the file')
         if ports:
             self.look_at_ports(ports)
-        processes = self.array_at(root, b'process', 'the file')
+        processes = self.array_at(root, 'process', 'the file')
         if processes:
-            journal = root.data.get(b'journal')
+            journal = root.data.get('journal')
             self.look_at_processes(processes, 1 if journal is None or journal.data == 1 else 2)
 
     def look_at_keys(self, table, known, text):
@@ -417,17 +232,17 @@ class Scenario:
         value = root.data.get(key)
         if value is None:
             return
-        if value.kind != 'integer':
-            self.tell(value.at, '%s is a whole number, and this is %s' % (key.decode(), named(value)))
+        if type(value.data) is not int:
+            self.tell(value.at, '%s is a whole number, and this is %s' % (key, named(value)))
         elif not least <= value.data <= most:
-            self.tell(value.at, '%s is a number from %d to %d' % (key.decode(), least, most))
+            self.tell(value.at, '%s is a number from %d to %d' % (key, least, most))
 
     def array_at(self, table, key, whose):
         value = table.data.get(key)
         if value is None:
             self.tell(table.at, 'a key is missing: %s has %s' % (whose, shown(key)))
-        elif value.kind != 'array':
-            self.tell(value.at, '%s is an array, and this is %s' % (key.decode(), named(value)))
+        elif type(value.data) is not list:
+            self.tell(value.at, '%s is an array, and this is %s' % (key, named(value)))
         else:
             return value
         return None
@@ -436,7 +251,7 @@ class Scenario:
         if len(ports.data) > MOST_PORTS:
             self.tell(ports.data[MOST_PORTS].at, 'there are at most %d ports' % MOST_PORTS)
         for port in ports.data:
-            if port.kind != 'integer' or not 0 <= port.data <= MOST_CAP:
+            if type(port.data) is not int or not 0 <= port.data <= MOST_CAP:
                 self.tell(port.at, 'a capacity is a whole number from 0 to %d' % MOST_CAP)
 
     def look_at_processes(self, processes, edition):
@@ -445,11 +260,11 @@ class Scenario:
         if len(processes.data) > MOST_PROCS:
             self.tell(processes.data[MOST_PROCS].at, 'there are at most %d processes' % MOST_PROCS)
         for pid, process in enumerate(processes.data):
-            if process.kind != 'table':
+            if type(process.data) is not dict:
                 self.tell(process.at, 'process %d is a table with the key steps, and this is %s' % (pid, named(process)))
                 continue
-            self.look_at_keys(process, {b'steps'}, 'a process has the one key steps')
-            steps = self.array_at(process, b'steps', 'process %d' % pid)
+            self.look_at_keys(process, {'steps'}, 'a process has the one key steps')
+            steps = self.array_at(process, 'steps', 'process %d' % pid)
             for place, step in enumerate(steps.data if steps else []):
                 if place == MOST_SCRIPT_STEPS:
                     self.tell(step.at, 'process %d has more than %d steps' % (pid, MOST_SCRIPT_STEPS))
@@ -457,7 +272,7 @@ class Scenario:
                 self.look_at_step(step, edition, 'process %d step %d: ' % (pid, place))
 
     def look_at_step(self, step, edition, where):
-        if step.kind != 'string':
+        if type(step.data) is not str:
             self.tell(step.at, where + 'a step is a text, and this is ' + named(step))
             return
         try:
@@ -466,46 +281,42 @@ class Scenario:
             self.tell(step.places[fault.at], where + str(fault))
 
 
-def named(value):
-    return {'integer': 'a whole number', 'array': 'an array'}.get(value.kind, 'a ' + value.kind)
-
-
 def fields_of(text):
     """Each field with its place, between single spaces."""
     at = 0
-    for field in text.split(b' '):
+    for field in text.split(' '):
         yield field, at
         at += len(field) + 1
 
 
 def read_step(text, edition):
     (word, _), *rest = fields_of(text)
-    wanted = {b'send': 'PORT V', b'recv': 'PORT', b'close': 'PORT', b'range': 'PORT', b'select': 'CASE.. [default]'}
+    wanted = {'send': 'PORT V', 'recv': 'PORT', 'close': 'PORT', 'range': 'PORT', 'select': 'CASE.. [default]'}
     if word not in wanted:
         raise Fault(0, '%s is no step: one is send, recv, select, close or range' % shown(text))
     form = wanted[word]
-    if word == b'select':
+    if word == 'select':
         read_select(rest, edition)
         return
     if len(rest) != len(form.split()):
         behind = rest[len(form.split())][1] if len(rest) > len(form.split()) else len(text)
-        raise Fault(behind, '%s is no step: `%s %s` is, with single spaces' % (shown(text), word.decode(), form))
+        raise Fault(behind, '%s is no step: `%s %s` is, with single spaces' % (shown(text), word, form))
     read_number(*rest[0], 'a port', GREATEST_PORT)
-    if word == b'send':
+    if word == 'send':
         read_value(*rest[1], edition)
 
 
 def read_select(fields, edition):
-    if fields and fields[-1][0] == b'default':
+    if fields and fields[-1][0] == 'default':
         fields = fields[:-1]
     if len(fields) > MOST_CASES:
         raise Fault(fields[MOST_CASES][1], 'a select has at most %d cases' % MOST_CASES)
     for field, at in fields:
-        port, colon, value = field[1:].partition(b':')
-        if field[:1] == b's' and colon and b':' not in value:
+        port, colon, value = field[1:].partition(':')
+        if field[:1] == 's' and colon and ':' not in value:
             read_number(port, at + 1, 'a port', GREATEST_PORT)
             read_value(value, at + 2 + len(port), edition)
-        elif field[:1] == b'r' and not colon:
+        elif field[:1] == 'r' and not colon:
             read_number(port, at + 1, 'a port', GREATEST_PORT)
         else:
             raise Fault(at, '%s is no case: one is sPORT:V or rPORT, and default stands last' % shown(field))
@@ -517,7 +328,7 @@ def read_number(field, at, what, most):
 
 
 def read_value(field, at, edition):
-    if not field.startswith(b'#'):
+    if not field.startswith('#'):
         read_number(field, at, 'a value', GREATEST_VALUE)
     elif edition == 1:
         raise Fault(at, '%s is no value: only with `journal = 2` is a value bytes' % shown(field))
@@ -525,26 +336,25 @@ def read_value(field, at, edition):
         raise Fault(at, '%s is no value: # and two of the digits 0 to 9 and a to f for each of at most %d bytes' % (shown(field), MOST_VALUE_DIGITS // 2))
 
 
-def faults_of(text):
-    """All that is wrong, by place."""
-    if len(text) > MOST_FILE_BYTES:
-        return [Fault(MOST_FILE_BYTES, 'a file has at most %d bytes' % MOST_FILE_BYTES)]
+def faults_of(content):
+    """All that is wrong with what a file holds, by place, each with its line and column."""
+    text = content[:MOST_FILE_BYTES].decode(errors='replace')
+    faults = [Fault(len(text), 'a file has at most %d bytes' % MOST_FILE_BYTES)] if len(content) > MOST_FILE_BYTES else faults_in(content)
+    return [(text.count('\n', 0, it.at) + 1, it.at - text.rfind('\n', 0, it.at), str(it)) for it in sorted(faults, key=lambda it: it.at)]
+
+
+def faults_in(content):
     try:
-        text.decode()
+        # A byte-order mark may stand before the text.
+        text = re.sub('^\N{BYTE ORDER MARK}', ' ', content.decode())
     except UnicodeDecodeError as error:
-        return [Fault(error.start, 'this is not UTF-8')]
-    try:
-        root = Toml(text).read_document()
-    except Fault as fault:
+        return [Fault(len(content[:error.start].decode()), 'this is not UTF-8')]
+    fault = wrong_toml(text)
+    if fault:
         return [fault]
     scenario = Scenario()
-    scenario.look(root)
-    return sorted(scenario.faults, key=lambda it: it.at)
-
-
-def line_and_column(text, at):
-    before = text[:at]
-    return before.count(b'\n') + 1, len(before[before.rfind(b'\n') + 1:].decode(errors='replace')) + 1
+    scenario.look(Reader(text).read_document())
+    return scenario.faults
 
 
 def main():
@@ -557,13 +367,12 @@ def main():
         return 2
     try:
         with open(words[0], 'rb') as file:
-            text = file.read()
+            faults = faults_of(file.read())
     except OSError as error:
         print('lint_scenario.py: %s: %s' % (words[0], error.strerror), file=sys.stderr)
         return 2
-    faults = faults_of(text)
     for fault in faults:
-        print('%s:%d:%d: %s' % (words[0], *line_and_column(text, fault.at), fault))
+        print('%s:%d:%d: %s' % (words[0], *fault))
     return 1 if faults else 0
 
 

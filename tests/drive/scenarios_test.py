@@ -180,7 +180,7 @@ class Tests(Count):
         """Whether the linter takes it, in one process for all; and what it says."""
         import lint_scenario
         faults = lint_scenario.faults_of(text)
-        return not faults, [(*lint_scenario.line_and_column(text, it.at), str(it)) for it in faults]
+        return not faults, faults
 
     def agrees(self, text):
         """Whether linter and program agree on a scenario."""
@@ -210,9 +210,9 @@ class Tests(Count):
         head = 'ports = [1]\n'
         one = head + 'process = [{steps = [%s]}]\n'
         places = [
-            ('ports = [1\nprocess = []\n', 2, 1, 'an element of an array'),
-            ('ports = [1]\nsteps = "a\n', 2, 9, 'does not end'),
-            ('ports = [1]\n\nports = [2]\nprocess = [{steps = []}]\n', 3, 1, '`ports` stands twice'),
+            ('ports = [1\nprocess = []\n', 2, 1, 'Unclosed array'),
+            ('ports = [1]\nsteps = "a\n', 2, 11, 'Illegal character'),
+            ('ports = [1]\n\nports = [2]\nprocess = [{steps = []}]\n', 3, 12, 'Cannot overwrite a value'),
             ('ports = [1, 1025]\nprocess = [{steps = []}]\n', 1, 13, 'a capacity'),
             ('# é\nports = ["é", "é"]\nprocess = [{steps = []}]\n', 2, 15, 'a capacity'),
             (head + 'seed = -1\nprocess = [{steps = []}]\n', 2, 8, 'seed'),

@@ -154,8 +154,7 @@ def wrong_place(text, name):
     if not faults:
         return ''
     first, *more = faults
-    place = '%s:%d:%d' % (name or 'standard input', *lint_scenario.line_and_column(text, first.at))
-    return '%s: %s%s' % (place, first, ', and %d more: tools/lint_scenario.py FILE tells all' % len(more) if more else '')
+    return '%s:%d:%d: %s%s' % (name or 'standard input', *first, ', and %d more: tools/lint_scenario.py FILE tells all' % len(more) if more else '')
 
 
 def unread(names):

@@ -12,7 +12,8 @@ import tomllib
 
 sys.dont_write_bytecode = True
 ROOT = os.path.dirname(os.path.dirname(os.path.dirname(os.path.abspath(__file__))))
-sys.path.insert(0, os.path.join(ROOT, 'tests/oracle'))
+sys.path[:0] = [os.path.join(ROOT, it) for it in ('tools/gate', 'tests/oracle')]
+from counting import Count
 from theorems import theorems
 
 PROGRAM = os.path.abspath(sys.argv[1] if len(sys.argv) > 1 else os.path.join(ROOT, 'crates', 'chanhub', 'out', 'chanhub'))
@@ -426,19 +427,16 @@ def devices(folder):
 
 
 def main():
-    passed, failed = 0, 0
+    count = Count()
     with tempfile.TemporaryDirectory() as folder:
         for rows in (
             journals, long_journals, longest_journals, faulty_journals, beginnings, comparisons, runs, scenarios,
             long_scenarios, arguments, devices, small_devices,
         ):
             for name, is_well in rows(folder):
-                passed, failed = passed + is_well, failed + (not is_well)
-                if not is_well:
-                    print('failed: %s: %s' % (rows.__name__, name))
-    print('%d passed, %d failed' % (passed, failed))
-    sys.exit(1 if failed else 0)
+                count.test(f'{rows.__name__}: {name}', is_well)
+    return count.end()
 
 
 if __name__ == '__main__':
-    main()
+    sys.exit(main())

@@ -49,47 +49,8 @@ MILLION, MOST_OPENING, MOST_VIEW = 1000000, 1.5, 0.25
 LONG = [(101, 3000), (102, 3000), (103, 2000)]  # seeds of longer journals, and how many steps they have
 FAR = 135, 6500  # and of one whose steps are summed up where all are in view
 WIDTH, HEIGHT = 1440, 860
-COLOURS = "paper text dim rule grey edge trouble on words link h0 h1 h2 h3 h4 h5 h6 h7".split()
 
-# keeps each call to a canvas, with the colours that it has then
-RECORDER = """
-window.drawn = [];
-for (const name of ["fillRect", "fillText"]) {
-    const draw = CanvasRenderingContext2D.prototype[name];
-    CanvasRenderingContext2D.prototype[name] = function (...words) {
-        if (window.drawn) window.drawn.push([this.canvas.id, name, words, this.fillStyle]);
-        return draw.apply(this, words);
-    };
-}
-"""
-# what stands in the page as shapes, each with the numbers of its path
-SHAPES = """[...document.querySelectorAll("#lanes :is(rect, circle, path, text)")].map((shape) => {
-    const of = (name) => Number(shape.getAttribute(name)), look = getComputedStyle(shape);
-    return { tag: shape.tagName, kind: shape.getAttribute("class").split(" "), x: of("x"), y: of("y"), width: of("width"), height: of("height"),
-        cx: of("cx"), cy: of("cy"), way: (shape.getAttribute("d") ?? "").match(/-?[0-9.]+/g)?.map(Number), fill: look.fill, stroke: look.stroke,
-        dash: look.strokeDasharray, told: shape.querySelector("title")?.textContent, text: shape.tagName === "text" ? shape.textContent : "" };
-})"""
-# the pixels of a canvas, column by column: from where to where they have which colour, as red, green, blue and opacity
-PIXELS = """((canvas) => {
-    const { width, height } = canvas, copy = Object.assign(document.createElement("canvas"), { width, height }).getContext("2d", { willReadFrequently: true });
-    copy.drawImage(canvas, 0, 0);
-    const { data } = copy.getImageData(0, 0, width, height), pixels = new Uint32Array(data.buffer);
-    return Array.from({ length: width }, (_, x) => {
-        const runs = [];
-        for (let y = 0, at = x; y < height; y++, at += width) {
-            if (y > 0 && pixels[at] === pixels[at - width] && runs.length) runs.at(-1)[1]++;
-            else runs.push([y, y + 1, ...data.slice(at * 4, at * 4 + 4)]);
-        }
-        return runs.filter((run) => run[5] > 0);
-    });
-})(document.getElementById("%s"))"""
-PROBE = """Object.fromEntries(%s.map((name) => {
-    const probe = document.body.appendChild(document.createElement("i"));
-    probe.style.color = `var(--${name})`;
-    const colour = getComputedStyle(probe).color;
-    probe.remove();
-    return [name, colour];
-}))""" % json.dumps(COLOURS)
+SCRIPT = ROOT / "tests" / "drive" / "page_test.js"
 Call = collections.namedtuple("Call", "canvas name words fill")
 
 
@@ -115,6 +76,7 @@ class Browser:
         for domain in "Page", "Runtime", "Log":
             self.ask(domain + ".enable")
         self.ask("Page.setLifecycleEventsEnabled", enabled=True)
+        self.ask("Page.addScriptToEvaluateOnNewDocument", source=SCRIPT.read_text())
         self.ask("Performance.enable", timeDomain="threadTicks")
         self.ask("Emulation.setDeviceMetricsOverride", width=WIDTH, height=HEIGHT, deviceScaleFactor=1, mobile=False)
 
@@ -432,9 +394,9 @@ class Drawn:
     """The shapes in the page, the calls to the canvas, and the scales that names tell: where a step and where a process stands."""
 
     def __init__(self, browser, procs):
-        self.shapes = [Shape(told) for told in browser.value(SHAPES)]
+        self.shapes = [Shape(told) for told in browser.value("shapesDrawn()")]
         calls = [Call(*call) for call in browser.value("window.drawn")]
-        self.colours = browser.value(PROBE)
+        self.colours = browser.value("coloursOfPage()")
         self.width = browser.value("document.getElementById('lanes').clientWidth")
         self.calls = [call for call in calls if call.canvas == "far"]
         ticks = sorted((int(call.words[0]), call.words[1]) for call in calls if call.canvas == "axis" and str(call.words[0]).isdigit())
@@ -584,7 +546,7 @@ def check_canvas(drawn, journal, first, end):
 
 def pixels_of(browser, id):
     """Of each column of a canvas the runs of one colour: from where to where, and which, as colours are spelled."""
-    for runs in browser.value(PIXELS % id):
+    for runs in browser.value(f"pixelsOf('{id}')"):
         assert all(alpha == 255 for *_, alpha in runs), "a pixel that shines through"
         yield [(top, end, f"rgb({red}, {green}, {blue})") for top, end, red, green, blue, _ in runs]
 
@@ -738,7 +700,7 @@ def open_page(browser, text, path, window=None):
 def check_waiting(browser, journal):
     """How many processes wait in each column of the strip, and where calls are stalled."""
     browser.value("page.layOut()")
-    colours, pixels = browser.value(PROBE), list(pixels_of(browser, "strip"))
+    colours, pixels = browser.value("coloursOfPage()"), list(pixels_of(browser, "strip"))
     asked, total = journal.asked(), len(journal.lines)
     waits = [(one.place, one.ended.by if one.ended else total) for one in asked if one.ended is None or one.ended.by > one.place]
     marks = {x + more for by, _, _ in journal.stalls for x in [int(by / (total / WIDTH))] for more in range(max(2, int(1 / (total / WIDTH))))}
@@ -1671,26 +1633,6 @@ def check_nasty(browser, count, work):
     count.test("a part of bytes is found", found(browser, "=</script>") == [[1, 2]])
 
 
-CONTRASTS = """(() => {
-    const channel = (part) => (part /= 255) <= 0.03928 ? part / 12.92 : ((part + 0.055) / 1.055) ** 2.4;
-    const colour = (text) => text.match(/[\\d.]+/g).map(Number), light = ([r, g, b]) => 0.2126 * channel(r) + 0.7152 * channel(g) + 0.0722 * channel(b);
-    const contrast = (one, other) => { const [a, b] = [light(colour(one)), light(colour(other))].sort((x, y) => y - x); return (a + 0.05) / (b + 0.05); };
-    const c = PROBE, faults = [];
-    const least = (name, one, other, bound) => { if (contrast(one, other) < bound) faults.push(`${name} ${contrast(one, other).toFixed(2)}`); };
-    for (const name of ["rule", "edge", "trouble", "on", "h0", "h1", "h2", "h3", "h4", "h5", "h6", "h7"]) least(name, c[name], c.paper, 3);
-    for (const name of ["h0", "h1", "h2", "h3", "h4", "h5", "h6", "h7", "trouble"]) least("what is chosen, beside " + name, c.on, c[name], 1.5);
-    for (const name of ["text", "dim", "h0", "h1", "h2", "h3", "h4", "h5", "h6", "h7", "edge"]) least(name + " as text or under it", c[name], c.paper, 4.5);
-    least("text on grey", c.text, c.grey, 4.5);
-    for (const element of document.querySelectorAll("body *:not(svg, svg *, option, select)")) {
-        if (![...element.childNodes].some((node) => node.nodeType === 3 && node.textContent.trim()) || !element.checkVisibility()) continue;
-        let ground = element;
-        while (ground && /, 0\\)|transparent/.test(getComputedStyle(ground).backgroundColor)) ground = ground.parentElement;
-        least(element.tagName + " " + element.textContent.slice(0, 20), getComputedStyle(element).color, getComputedStyle(ground ?? document.body).backgroundColor, 4.5);
-    }
-    return faults;
-})()""".replace("PROBE", PROBE)
-
-
 def check_contrasts(browser, count, path):
     papers = []
     for theme in "light", "dark":
@@ -1699,7 +1641,7 @@ def check_contrasts(browser, count, path):
             browser.value("document.getElementById('theme').click()")
         for hash in "whole", "step":
             browser.value("page.choose(%s); page.paint()" % ("null" if hash == "whole" else "page.journal.stalls.at(-1) ?? 9"))
-            faults = browser.value(CONTRASTS)
+            faults = browser.value("lowContrasts()")
             count.test(f"contrasts on {theme}, {hash}", faults == [], faults)
         papers.append(browser.value("getComputedStyle(document.body).backgroundColor"))
     count.test("the other light is another one", papers == ["rgb(255, 255, 255)", "rgb(22, 24, 28)"], papers)
@@ -1735,7 +1677,7 @@ def check_million(browser, count, work):
         count.test(f"{share} of them are drawn in {took:.2f} s", took <= MOST_VIEW)
     for share in 1, 0.02:
         browser.value(f"page.view.show(1000, {steps} * {share}); page.paint()")
-        grey, height, width = browser.value(PROBE)["edge"], browser.value("page.view.place.get(0).height") - 2, browser.value("page.view.width") - 64
+        grey, height, width = browser.value("coloursOfPage()")["edge"], browser.value("page.view.place.get(0).height") - 2, browser.value("page.view.width") - 64
         lanes = [sum(end - top for top, end, colour in runs if colour == grey and end <= 26 + height + 4) for runs in pixels_of(browser, "far")]
         whole = sum(lanes) / ((width if share < 1 else width - 44) * height * 1.2)
         count.test(f"process 0 asks in half of the steps, in {share} of them: {whole:.3f}", abs(whole - 0.5) < 0.02)
@@ -1745,7 +1687,7 @@ def check_million(browser, count, work):
 def check_strip(browser, count, steps):
     """What the strip tells of a page of a million steps, in which of two processes one waits half of the time; and where calls stalled."""
     browser.value("page.layOut()")
-    blue = browser.value(PROBE)["h1"]
+    blue = browser.value("coloursOfPage()")["h1"]
     waits = sum(end - top for runs in pixels_of(browser, "strip") for top, end, colour in runs if colour == blue) / WIDTH / 32
     count.test(f"the strip tells that a quarter waits: {waits:.3f}", abs(waits - 0.25) < 0.01)
     browser.value(f"page.view.show({steps} * 0.25, {steps} * 0.5); page.paint()")
@@ -1784,19 +1726,6 @@ def check_viewer(count):
 
 # ---- the journals of benches/, by hand
 
-PAN = """(() => {
-    const took = [];
-    for (let at = 0; at < 20; at++) {
-        const begin = performance.now();
-        page.view.pan(page.view.steps / 20);
-        page.paint();
-        document.body.offsetHeight;
-        took.push(performance.now() - begin);
-    }
-    return took.sort((one, other) => one - other);
-})()"""
-
-
 def measure(folder):
     """Prints what the pages of the journals of benches/ cost."""
     subprocess.run([sys.executable, str(ROOT / "benches" / "make_journals.py"), folder], check=True, stdout=subprocess.DEVNULL)
@@ -1815,7 +1744,7 @@ def measure(folder):
             print(f"{name}: {path.stat().st_size / steps:.1f} bytes a step, open after {opened:.2f} s of the processor, {clock:.2f} s by the clock")
             for share in 1, 0.1, 0.01, 0.005, 0.0005, 0.0001:
                 browser.value(f"page.view.show({steps} * 0.3, {steps} * {share}); page.paint()")
-                took = browser.value(PAN)
+                took = browser.value("timesOfMoves()")
                 print(f"  {int(steps * share)} steps: a move takes {took[10]:.0f} ms, at most {took[-1]:.0f}")
             before = browser.seconds()
             browser.value("page.find('P3')")
@@ -1838,7 +1767,6 @@ def main():
     with tempfile.TemporaryDirectory() as folder:
         work = pathlib.Path(folder)
         browser = Browser(folder)
-        browser.ask("Page.addScriptToEvaluateOnNewDocument", source=RECORDER)
         for seed in range(1, int(words[0]) + 1 if words else RANDOM + 1):
             check_random(browser, count, work, seed)
             check_random(browser, count, work, seed, third=True)

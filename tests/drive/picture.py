@@ -548,52 +548,7 @@ def check_picture(picture, journal, first, end):
 
 # ---- what a browser shows
 
-# each picture stands in a section of its own; what is wrong with it is written there: what is out of view, a text over another's
-# box, over an arrow or beyond its own box, a tip of an arc under a box, a bar or a knob, and a contrast below 3, of a text with what
-# it stands on and of an edge with the paper
-PAGE = """<!doctype html><meta charset="ascii"><body style="margin:0">%s<script>
-const meets = (a, b) => a.x + 1 < b.x + b.width && b.x + 1 < a.x + a.width && a.y + 1 < b.y + b.height && b.y + 1 < a.y + a.height;
-const holds = (a, b) => a.x - 1 <= b.x && b.x + b.width <= a.x + a.width + 1 && a.y - 1 <= b.y && b.y + b.height <= a.y + a.height + 1;
-const color = (text) => text.match(/[\\d.]+/g).map(Number);
-const light = (c) => c.slice(0, 3).map((v) => (v /= 255) <= 0.04045 ? v / 12.92 : ((v + 0.055) / 1.055) ** 2.4);
-const bright = (c) => { const [r, g, b] = light(c); return 0.2126 * r + 0.7152 * g + 0.0722 * b + 0.05; };
-const contrast = (a, b) => Math.max(bright(a) / bright(b), bright(b) / bright(a));
-const over = (a, b, share) => a.slice(0, 3).map((v, i) => share * v + (1 - share) * b[i]);
-const inside = (p, b) => b.x < p.x && p.x < b.x + b.width && b.y < p.y && p.y < b.y + b.height;
-for (const section of document.querySelectorAll("section")) {
-    const svg = section.querySelector("svg"), view = svg.viewBox.baseVal, faults = [];
-    const boxes = [...svg.querySelectorAll(":scope > .box rect")], paper = color(getComputedStyle(svg.querySelector(".paper")).fill);
-    const field = svg.querySelector(":scope > .stall rect"), style = field && getComputedStyle(field);
-    const grounds = [paper, ...(field ? [over(color(style.fill), paper, style.fillOpacity)] : [])];
-    for (const shape of svg.querySelectorAll("rect, path, circle, text, use")) {
-        if (shape.closest("defs")) continue;
-        const at = shape.getBBox(), look = getComputedStyle(shape), name = shape.tagName + " " + shape.textContent + " at " + at.x + ", " + at.y;
-        const own = shape.closest(".box")?.querySelector("rect"), sign = shape.closest(".sign");
-        if (!sign && (at.x < 0 || at.y < 0 || at.x + at.width > view.width || at.y + at.height > view.height)) faults.push(name + " is out of view");
-        if (shape.tagName === "text") {
-            if (!sign && boxes.some((box) => box !== own && meets(at, box.getBBox()))) faults.push(name + " lies over a box");
-            if (own && !holds(own.getBBox(), at)) faults.push(name + " goes beyond its box");
-            for (const ground of own ? [color(getComputedStyle(own).fill)] : grounds)
-                if (contrast(over(color(look.fill), ground, look.fillOpacity), ground) < 3) faults.push(name + " is hardly read");
-        } else if (!shape.matches(".paper, .stall rect"))
-            for (const ground of grounds)
-                if (Math.max(...[look.stroke, look.fill, look.color].filter((c) => c !== "none").map((c) => contrast(color(c), ground))) < 3
-                    || (look.stroke !== "none" && shape.tagName !== "use" && contrast(color(look.stroke), ground) < 3))
-                    faults.push(name + " is hardly seen");
-    }
-    const texts = [...svg.querySelectorAll(":scope > text, .strip text, .stay")].map((text) => [text, text.getBBox()]);
-    for (const arrow of svg.querySelectorAll(":scope > .arrow path, :scope > .whom path"))
-        for (let along = 0; along < arrow.getTotalLength(); along += 3)
-            for (const [text, box] of texts)
-                if (inside(arrow.getPointAtLength(along), box)) { faults.push(text.textContent + " lies over an arrow"); along = 1e9; break; }
-    const above = [...svg.querySelectorAll(":scope > .box rect, :scope > .bar rect, :scope > .bar circle")].map((shape) => shape.getBBox());
-    for (const arc of svg.querySelectorAll(":scope > .whom path")) {
-        const end = arc.getPointAtLength(arc.getTotalLength()), tip = { x: end.x - 2, y: end.y - 5, width: 11, height: 10 };
-        if (above.some((box) => meets(tip, box))) faults.push("the tip of " + arc.parentNode.textContent + " is hidden");
-    }
-    section.replaceChildren("faults of " + section.id + ": " + faults.join("; "));
-}
-</script>"""
+PAGE = ROOT / "tests" / "drive" / "picture.html"
 
 
 def browser():
@@ -606,7 +561,7 @@ def check_views(count, pictures):
     for scheme, more in ("white", []), ("dark", ["--blink-settings=preferredColorScheme=0"]):
         with tempfile.TemporaryDirectory() as work:
             page = pathlib.Path(work) / "page.html"
-            page.write_text(PAGE % sections)
+            page.write_text(PAGE.read_text().replace("PICTURES", sections))
             words = [browser(), "--headless", "--no-sandbox", "--disable-gpu", f"--user-data-dir={work}/user", *more, "--dump-dom", page.as_uri()]
             shown = output_of(words, wait=LONG).decode()
         for name in pictures:

@@ -1,0 +1,78 @@
+// What page_test.py asks of a page. It is read before the page's own scripts.
+
+// Keeps each call to a canvas, with the colours that it has then.
+window.drawn = [];
+for (const name of ["fillRect", "fillText"]) {
+    const draw = CanvasRenderingContext2D.prototype[name];
+    CanvasRenderingContext2D.prototype[name] = function (...words) {
+        if (window.drawn) window.drawn.push([this.canvas.id, name, words, this.fillStyle]);
+        return draw.apply(this, words);
+    };
+}
+
+// What stands in the page as shapes, each with the numbers of its path.
+window.shapesDrawn = () => [...document.querySelectorAll("#lanes :is(rect, circle, path, text)")].map((shape) => {
+    const of = (name) => Number(shape.getAttribute(name)), look = getComputedStyle(shape);
+    return { tag: shape.tagName, kind: shape.getAttribute("class").split(" "), x: of("x"), y: of("y"), width: of("width"), height: of("height"),
+        cx: of("cx"), cy: of("cy"), way: (shape.getAttribute("d") ?? "").match(/-?[0-9.]+/g)?.map(Number), fill: look.fill, stroke: look.stroke,
+        dash: look.strokeDasharray, told: shape.querySelector("title")?.textContent, text: shape.tagName === "text" ? shape.textContent : "" };
+});
+
+// The pixels of a canvas, column by column: from where to where they have which colour, as red, green, blue and opacity.
+window.pixelsOf = (id) => {
+    const canvas = document.getElementById(id), { width, height } = canvas;
+    const copy = Object.assign(document.createElement("canvas"), { width, height }).getContext("2d", { willReadFrequently: true });
+    copy.drawImage(canvas, 0, 0);
+    const { data } = copy.getImageData(0, 0, width, height), pixels = new Uint32Array(data.buffer);
+    return Array.from({ length: width }, (_, x) => {
+        const runs = [];
+        for (let y = 0, at = x; y < height; y++, at += width) {
+            if (y > 0 && pixels[at] === pixels[at - width] && runs.length) runs.at(-1)[1]++;
+            else runs.push([y, y + 1, ...data.slice(at * 4, at * 4 + 4)]);
+        }
+        return runs.filter((run) => run[5] > 0);
+    });
+};
+
+// The colours of the page, by name.
+const COLOURS = "paper text dim rule grey edge trouble on words link h0 h1 h2 h3 h4 h5 h6 h7".split(" ");
+window.coloursOfPage = () => Object.fromEntries(COLOURS.map((name) => {
+    const probe = document.body.appendChild(document.createElement("i"));
+    probe.style.color = `var(--${name})`;
+    const colour = getComputedStyle(probe).color;
+    probe.remove();
+    return [name, colour];
+}));
+
+// Which contrasts are too low.
+window.lowContrasts = () => {
+    const channel = (part) => (part /= 255) <= 0.03928 ? part / 12.92 : ((part + 0.055) / 1.055) ** 2.4;
+    const colour = (text) => text.match(/[\d.]+/g).map(Number), light = ([r, g, b]) => 0.2126 * channel(r) + 0.7152 * channel(g) + 0.0722 * channel(b);
+    const contrast = (one, other) => { const [a, b] = [light(colour(one)), light(colour(other))].sort((x, y) => y - x); return (a + 0.05) / (b + 0.05); };
+    const c = coloursOfPage(), faults = [];
+    const least = (name, one, other, bound) => { if (contrast(one, other) < bound) faults.push(`${name} ${contrast(one, other).toFixed(2)}`); };
+    for (const name of ["rule", "edge", "trouble", "on", "h0", "h1", "h2", "h3", "h4", "h5", "h6", "h7"]) least(name, c[name], c.paper, 3);
+    for (const name of ["h0", "h1", "h2", "h3", "h4", "h5", "h6", "h7", "trouble"]) least("what is chosen, beside " + name, c.on, c[name], 1.5);
+    for (const name of ["text", "dim", "h0", "h1", "h2", "h3", "h4", "h5", "h6", "h7", "edge"]) least(name + " as text or under it", c[name], c.paper, 4.5);
+    least("text on grey", c.text, c.grey, 4.5);
+    for (const element of document.querySelectorAll("body *:not(svg, svg *, option, select)")) {
+        if (![...element.childNodes].some((node) => node.nodeType === 3 && node.textContent.trim()) || !element.checkVisibility()) continue;
+        let ground = element;
+        while (ground && /, 0\)|transparent/.test(getComputedStyle(ground).backgroundColor)) ground = ground.parentElement;
+        least(element.tagName + " " + element.textContent.slice(0, 20), getComputedStyle(element).color, getComputedStyle(ground ?? document.body).backgroundColor, 4.5);
+    }
+    return faults;
+};
+
+// How many milliseconds each of twenty moves takes, the shortest first.
+window.timesOfMoves = () => {
+    const took = [];
+    for (let at = 0; at < 20; at++) {
+        const begin = performance.now();
+        page.view.pan(page.view.steps / 20);
+        page.paint();
+        document.body.offsetHeight;
+        took.push(performance.now() - begin);
+    }
+    return took.sort((one, other) => one - other);
+};

@@ -76,3 +76,32 @@ window.timesOfMoves = () => {
     }
     return took.sort((one, other) => one - other);
 };
+
+// What is told in each of these elements, with single spaces.
+window.textsOf = (selector) => [...document.querySelectorAll(selector)].map((one) => one.textContent.trim().replace(/\s+/g, " "));
+
+window.titleOfPanel = () => [...document.querySelectorAll("#panel h2")].find((one) => one.checkVisibility()).textContent;
+
+window.namesOfLanes = () => [...document.querySelectorAll("#lanes .name")].filter((one) => one.textContent)
+    .sort((a, b) => a.getAttribute("y") - b.getAttribute("y")).map((one) => one.textContent);
+
+// The places of the steps whose boxes are not pale.
+window.clearBoxes = () => [...document.querySelectorAll("#lanes .box")].filter((box) => getComputedStyle(box).opacity === "1")
+    .map((box) => Number(box.dataset.link.slice(5)) - 1).sort((a, b) => a - b);
+
+// Takes a choice of a list.
+window.choose = (selector, choice) => {
+    const target = document.querySelector(selector);
+    target.value = choice;
+    target.dispatchEvent(new Event("change", { bubbles: true }));
+};
+
+// What each of these words finds, one after the other.
+window.foundBy = async (...several) => {
+    const told = [];
+    for (const words of several) {
+        await page.find(words);
+        told.push(page.found);
+    }
+    return told;
+};

@@ -11,7 +11,6 @@ is there, is asked on white and on dark paper whether all of a picture is in vie
 beyond its own box, no tip of an arc that tells who waits for whom lies under a box or a bar, and all contrasts are at least 3.
 The last line counts: 'N passed, M failed', and 'K skipped' for what is not there."""
 import collections
-import os
 import pathlib
 import random
 import re

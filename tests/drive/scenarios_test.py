@@ -24,46 +24,6 @@ from counting import Count
 
 EXAMPLES = os.path.join(ROOT, 'examples')
 
-# What the formats allow and examples do not show: each kind of text, table, number and date.
-RICH = [
-    '''\
-seed = 0x7F
-limit = 1_000
-"journal" = 2
-ports = [ 1, # one
-  0o17, 0b11,
-]
-process = [
-  { steps = ["send 1 #00ff", 'recv 1', """select r1 s1:5 \\
-      default""", \'\'\'close 1\'\'\'] },
-  { steps = [
-    "range\\u00201", # a comment
-  ], },
-]
-''',
-    '''\
-# A header behind an array.
-ports = [] # none
-[[process]]
-steps = []
-[[process]]
-"steps" = ["select default", "select", "range 65535"]
-''',
-    'ports = [0]\r\nprocess = [{steps = ["send 1 18446744073709551615"]}, {steps = ["recv\\x201"]}]\r\nlimit = 10\r\n',
-]
-
-PIECES = [
-    '"', "'", '"""', "'''", '[', ']', '[[', ']]', '{', '}', ',', '=', '.', '#', '\\', '\n', '\r\n', '\r', ' ', '\t', '\x00', '\x7f', 'ä',
-    '_', '-', '+', '0', '1', '2', '9', '00', '64', '65', '1024', '1025', '65535', '65536', '18446744073709551615', '18446744073709551616',
-    '9223372036854775807', '9223372036854775808', '-1', '+1', '1.0', '1e3', '1e999', 'inf', 'nan', '0x1f', '0xG', '0o8', '0b1', '1_0', '1__0',
-    'true', '2020-02-29', '2021-02-29', '2020-01-01T00:00:60Z', '2020-01-01 10:00', '10:61', '10:30', 'seed = 1\n', 'limit = 0\n', 'limit = 1000001\n',
-    'journal = 2\n', 'journal = 3\n', 'ports = []\n', 'other = 1\n', 'a.b = 1\n', '[process]\n', '[[process]]\nsteps = []\n', '[[process.steps]]\n', '[other]\n',
-    'process.steps = []\n', 'steps', 'process', '{steps = []}', '{ steps = ["close 1"], }', '"send 1 2"', '"recv 1 "', '"select r1 default"', '"range 1"',
-    's1:2', 'r1', 's1:#00', '#00', ' default', 'default', 'send', 'recv', 'select ', '\\n', '\\t', '\\e', '\\x31', '\\u0031', '\\U00110000', '\\q', '\\\n  ',
-    '\N{BYTE ORDER MARK}',
-]
-
-
 # after so many seconds what should end, on a slow machine too, is taken to hang
 LONG = 120
 
@@ -92,6 +52,9 @@ def path_of(name):
     """Where a script stands."""
     paths = (os.path.join(ROOT, folder, name) for folder in ('tools', 'tools/build', 'tests/oracle'))
     return next(filter(os.path.exists, paths), os.path.join(ROOT, 'tools', name))
+
+
+LINT = table('lint')
 
 
 def examples(kind):
@@ -149,9 +112,9 @@ def mutate(chance, text):
             found = list(re.finditer(rb'\d+', text))
             if found:
                 number = chance.choice(found)
-                text = text[:number.start()] + chance.choice(PIECES[27:60]).encode() + text[number.end():]
+                text = text[:number.start()] + chance.choice(LINT['numbers']).encode() + text[number.end():]
         else:
-            text = text[:at] + chance.choice(PIECES).encode() + text[end:]
+            text = text[:at] + chance.choice(LINT['pieces']).encode() + text[end:]
     return text
 
 
@@ -196,7 +159,7 @@ class Tests(Count):
         return takes == (status != 2)
 
     def lint_agrees(self, mutations):
-        good = [read(it) for it in examples('scenarios')] + [it.encode() for it in RICH]
+        good = [read(it) for it in examples('scenarios')] + [it.encode() for it in LINT['rich']]
         self.test('lint_scenario.py takes the examples', all(self.lint(it)[0] for it in good) and all([self.agrees(it) for it in good]))
         self.test('lint_scenario.py agrees on the rows of tests/', all([self.agrees(it) for it in rows()]))
         self.test('lint_scenario.py agrees at the limits', all([self.agrees(it) for it in limits()]))
@@ -207,37 +170,9 @@ class Tests(Count):
 
     def lint_says_where(self):
         """Worked by hand: what is wrong stands at this line and column."""
-        head = 'ports = [1]\n'
-        one = head + 'process = [{steps = [%s]}]\n'
-        places = [
-            ('ports = [1\nprocess = []\n', 2, 1, 'Unclosed array'),
-            ('ports = [1]\nsteps = "a\n', 2, 11, 'Illegal character'),
-            ('ports = [1]\n\nports = [2]\nprocess = [{steps = []}]\n', 3, 12, 'Cannot overwrite a value'),
-            ('ports = [1, 1025]\nprocess = [{steps = []}]\n', 1, 13, 'a capacity'),
-            ('# é\nports = ["é", "é"]\nprocess = [{steps = []}]\n', 2, 15, 'a capacity'),
-            (head + 'seed = -1\nprocess = [{steps = []}]\n', 2, 8, 'seed'),
-            (head + 'limit = 0\nprocess = [{steps = []}]\n', 2, 9, 'limit'),
-            (head + 'colour = 1\nprocess = [{steps = []}]\n', 2, 1, '`colour`'),
-            (head + '[[process]]\n', 2, 1, '`steps`'),
-            ('process = [{steps = []}]\n', 1, 1, '`ports`'),
-            (one % '"send 1 2", "sned 1 2"', 2, 35, 'process 0 step 1'),
-            (one % '"send 65536 2"', 2, 28, '`65536` is no port'),
-            (one % '"send 1 02"', 2, 30, '`02` is no value'),
-            (one % '"recv 1 2"', 2, 30, '`recv PORT`'),
-            (one % '"send 1"', 2, 29, '`send PORT V`'),
-            (one % '"select r1 s1 default"', 2, 33, '`s1` is no case'),
-            (one % '"select\\u0020r1 r"', 2, 39, 'no port'),
-            (one % '"send 1 #00"', 2, 30, 'journal = 2'),
-            (one % '\n  """\nrecv\\\n  x 1"""', 5, 3, None),
-            (one % '7', 2, 22, 'a whole number'),
-            (head + 'process = []\n', 2, 11, 'at least one process'),
-        ]
-        for text, line, column, said in places:
+        for text, line, column, said in LINT['places']:
             _, faults = self.lint(text.encode())
-            where = [it for it in faults if it[:2] == (line, column) and (said is None or said in it[2])]
-            if said is None:
-                # The step's first field is `recvx`, and begins in the line of its text.
-                where = [it for it in faults if it[0] == 4 and it[1] == 1]
+            where = [it for it in faults if it[:2] == (line, column) and said in it[2]]
             self.test('lint_scenario.py says where: line %d column %d of %r' % (line, column, text), where and len(faults) == (2 if 'é' in text else 1))
         write(self.path('two'), b'ports = [9999]\nprocess = [{steps = ["recv x"]}]\n')
         status, told, errors = self.script('lint_scenario.py', self.path('two'))

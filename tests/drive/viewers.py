@@ -8,7 +8,6 @@ import collections
 import json
 import pathlib
 import re
-import subprocess
 import sys
 
 sys.dont_write_bytecode = True
@@ -17,7 +16,7 @@ import model
 import page
 import story_model
 from refusals import Refuser
-from story import RANDOM_JOURNALS, WINDOWED, Program, begins_under_refusals, count, journals, refused, survives_refusals, table
+from story import Program, begins_under_refusals, count, journals, refused, survives_refusals, table
 
 MOST_STEPS = 200
 # a page of a million steps takes so many bytes of memory more than the story of one of them at most; its text has thirty times as many

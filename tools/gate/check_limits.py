@@ -6,7 +6,6 @@ so may widths of machine words. Sources prove how many bytes a type takes (`size
 it is compared with that.
 """
 import glob
-import os
 import re
 
 from claims import files, read

@@ -10,9 +10,6 @@ full ports hold and whom stalled calls perhaps wait for. Search, following, link
 contrasts of all colours are computed on light and on dark; bytes that HTML would take for its own are shown; no error may stand in the
 console; the data of journals of benches/ have at most 60 bytes a step; and a page of a million steps has to open, and be drawn at any
 zoom, in little time of the processor. Status 77 without Chromium. The last line counts.
-
-page_test.py [TOOL] --long [FOLDER] makes the pages of the four journals of benches/, a million steps each, in FOLDER or a temporary
-one, and prints how long they took to open and to move, and their bytes a step. Without TOOL that takes minutes.
 """
 import collections
 import fcntl
@@ -26,7 +23,6 @@ import re
 import subprocess
 import sys
 import tempfile
-import time
 import tomllib
 import unicodedata
 
@@ -1401,44 +1397,13 @@ def check_viewer(count):
     count.test("its lines are as wide as can be read", max(map(len, lines)) < VIEWER_WIDTH)
 
 
-# ---- the journals of benches/, by hand
-
-def measure(folder):
-    """Prints what the pages of the journals of benches/ cost."""
-    subprocess.run([sys.executable, str(ROOT / "benches" / "make_journals.py"), folder], check=True, stdout=subprocess.DEVNULL)
-    for name in "hand_overs", "bursts", "selects", "bytes":
-        path = pathlib.Path(folder) / f"{name}.html"
-        with open(pathlib.Path(folder) / name) as journal, open(path, "w") as made:
-            if TOOLS:
-                subprocess.run([*TOOLS, "page"], stdin=journal, stdout=made, check=True)
-            else:
-                page.write_page(journal, made.write)
-        with tempfile.TemporaryDirectory() as user:
-            browser = Browser(user)
-            begin = time.monotonic()
-            browser.open(path)
-            clock, opened, steps = time.monotonic() - begin, browser.seconds(), browser.value("page.journal.steps")
-            print(f"{name}: {path.stat().st_size / steps:.1f} bytes a step, open after {opened:.2f} s of the processor, {clock:.2f} s by the clock")
-            for share in 1, 0.1, 0.01, 0.005, 0.0005, 0.0001:
-                browser.value(f"page.view.show({steps} * 0.3, {steps} * {share}); page.paint()")
-                took = browser.value("timesOfMoves()")
-                print(f"  {int(steps * share)} steps: a move takes {took[10]:.0f} ms, at most {took[-1]:.0f}")
-            before = browser.seconds()
-            browser.value("page.find('P3')")
-            print(f"  P3 is found in {browser.seconds() - before:.1f} s")
-            browser.end()
-
-
 def main():
     if picture.browser() is None:
         print("0 passed, 0 failed, 1 skipped")
         sys.exit(77)
     words = sys.argv[1:]
-    if words and words[0] != "--long" and not words[0].isdigit():
+    if words and not words[0].isdigit():
         TOOLS.append(words.pop(0))
-    if words[:1] == ["--long"]:
-        with tempfile.TemporaryDirectory() as folder:
-            return measure(words[1] if words[1:] else folder)
     count = Count()
     check_viewer(count)
     with tempfile.TemporaryDirectory() as folder:

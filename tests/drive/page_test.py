@@ -817,6 +817,15 @@ def check_value(browser, journal, one):
 JUNK = re.compile("null|undefined|NaN|Infinity|\\[object")
 
 
+def check_deadlock(browser, journal, place):
+    """What the panel says of a step that stalls calls, if it does."""
+    browser.value(f"page.choose({place})")
+    for what, wanted in (("#cause li", cause_lines(journal, place)), ("#full li", held_lines(journal, place)),
+                         ("#stalled li", stalled_lines(journal, place)), ("#last td", last_cells(journal, place))):
+        told, wanted = texts(browser, what), [line.strip() for line in wanted]
+        assert told == wanted, f"{what} at step {place + 1}: {told} and not {wanted}"
+
+
 def check_part_panel(browser, journal):
     """What the panel says of steps that are told, and that others are not."""
     whole, (first, end) = browser.value("document.getElementById('panel').innerText"), (journal.window.start, journal.window.stop)
@@ -843,12 +852,7 @@ def check_part_panel(browser, journal):
         said = texts(browser, "#before li")
         assert len(said) == len(before) and all(map(str.startswith, said, before)), f"before step {place + 1}: {said} and not {before}"
     for place in {by for by, _, _ in journal.stalls} & set(journal.window):
-        browser.value(f"page.choose({place})")
-        for id, lines in ("cause", cause_lines(journal, place)), ("full", held_lines(journal, place)), ("stalled", stalled_lines(journal, place)):
-            said, lines = texts(browser, f"#{id} li"), [line.strip() for line in lines]
-            assert said == lines, f"{id} at step {place + 1}: {said} and not {lines}"
-        said, cells = texts(browser, "#last td"), list(last_cells(journal, place))
-        assert said == cells, f"who was there last at step {place + 1}: {said} and not {cells}"
+        check_deadlock(browser, journal, place)
     for place in sorted(set(range(count)) - journal.told)[:3]:
         shown = title(browser)
         browser.value(f"page.choose({place})")
@@ -1149,12 +1153,7 @@ def check_panel(browser, journal, draw):
     rows, cells = list(waits_told(journal))[:5], texts(browser, "#longest td")
     assert cells == sum(rows, []), f"{cells} and not {rows}"
     for place in [*stalls[:2], *stalls[-2:], *(draw(len(asked)) for _ in range(6))]:
-        browser.value(f"page.choose({place})")
-        for id, lines in ("cause", cause_lines(journal, place)), ("full", held_lines(journal, place)), ("stalled", stalled_lines(journal, place)):
-            told, wanted = texts(browser, f"#{id} li"), [line.strip() for line in lines]
-            assert told == wanted, f"{id} at step {place + 1}: {told} and not {wanted}"
-        told, wanted = texts(browser, "#last td"), list(last_cells(journal, place))
-        assert told == wanted, f"who was there last at step {place + 1}: {told} and not {wanted}"
+        check_deadlock(browser, journal, place)
         wanted = [f"{one.place + 1} {one.line} {answer_of(one) if one.ended and one.ended.by < place else 'waits'}"
             for one in asked[max(0, place - 6) : place]]
         told = texts(browser, "#before li")

@@ -5,20 +5,28 @@
 //! itself, so it never ends.
 #![tactic(auto)]
 
+mod beginnings;
+mod chains;
 mod checkpoint_texts;
 mod checkpoints;
 mod cuts;
+mod fault;
 mod limits;
 mod making;
 mod recorder;
 mod renewals;
+mod replays;
 mod texts;
 mod totals;
 
+pub use beginnings::is_same_entry;
+pub use chains::Chain;
 pub use checkpoint_texts::checkpoint_text;
 pub use checkpoints::checkpoint_of;
 pub use cuts::{cut, cut_journal};
+pub use fault::ChainFault;
 pub use limits::MOST_KEEP;
 pub use recorder::Recorder;
 pub use renewals::{hub_after, step_admitted};
+pub use replays::read_hub;
 pub use totals::Totals;

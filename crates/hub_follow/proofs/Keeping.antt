@@ -21,8 +21,8 @@ use Rattle.hub_laws.proofs.Totals.{take_next}
 use Rattle.hub_core.specs.declared.terms.Terms.{Terms}
 use Rattle.hub_core.specs.HubView.{HubView, IsFullFor, Refuses, opened_hub, with_entry}
 use Rattle.hub_live.specs.Locked.{LockedView, Serves, ServesStep, none_waits, without_answer}
-use Rattle.hub_chain.specs.Chains.{MakesText}
-use Rattle.hub_chain.proofs.Places.{around, steps_there}
+use Rattle.hub_cut.specs.Chains.{MakesText}
+use Rattle.hub_cut.proofs.Places.{around, steps_there}
 use Rattle.hub_follow.specs.declared.follower.AfterDivergence.{AfterDivergence}
 use Rattle.hub_follow.specs.declared.follower.AfterDivergence.TheVariants.{GoesOn}
 use Rattle.hub_follow.specs.declared.follower.Stand.TheVariants.{Early, Other}

@@ -9,7 +9,7 @@ ghost use Rattle.hub_base.specs.declared.limits.TheConstants.{MOST_BYTES};
 ghost use Rattle.hub_core.specs.HubView.{opened_hub};
 ghost use Rattle.hub_laws.specs.Journals.{IsLegal};
 ghost use Rattle.hub_live.specs.Locked.{IsReplyTo, answer_for, none_waits, without_answer};
-ghost use Rattle.hub_chain.specs.Faults.{IsNotLegal};
+ghost use Rattle.hub_cut.specs.Faults.{IsNotLegal};
 ghost use Rattle.hub_story.specs.Clock.{clock_of};
 ghost use Rattle.hub_follow.specs.Follow.{FollowsAnew, FollowsStep, IsAdmitted, IsBeginning, IsDue, IsFree, IsOfIts, diverged_by, next_of, number_of, step_of, with_locked, with_word};
 ghost use Rattle.hub_follow.specs.Stands.{Passes, PassesGiven, Stands, given_of, word_of};
@@ -18,7 +18,7 @@ ghost use Rattle.hub_follow.specs.declared.not_made.NotMade.TheVariants.{Diverge
 use crate::NotMade;
 use crate::given::Given;
 use hub_base::{CaseSlice, Entry, EntryRef, Event, NoMemory, Pid, Step, StepRef};
-use hub_chain::{ChainFault, is_same_entry, read_hub};
+use hub_cut::{ChainFault, is_same_entry, read_hub};
 use hub_core::{CaseRoom, Hub, ShortEntries, ShortHub};
 use hub_live::under_lock::Locked;
 use hub_story::clock_of;

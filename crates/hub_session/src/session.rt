@@ -5,12 +5,12 @@ ghost use Rattle.hub_base.specs.Head.{IsHead, head_of};
 ghost use Rattle.hub_base.specs.declared.limits.TheConstants.{MOST_STEPS};
 ghost use Rattle.hub_core.specs.HubView.{RefusesOpening, IsLimit, terms_of};
 ghost use Rattle.hub_cut.specs.Recorder.{IsKeep};
-ghost use Rattle.hub_chain.specs.Faults.{IsNotLegal};
+ghost use Rattle.hub_cut.specs.Faults.{IsNotLegal};
 ghost use Rattle.hub_session.specs.Hubs.{head_in};
 ghost use Rattle.hub_session.specs.Opens.{IsAnew, IsOpened, IsOpenedEndless, IsOpenedFollowing};
 
 use hub_base::{Edition, Head};
-use hub_chain::ChainFault;
+use hub_cut::ChainFault;
 use hub_core::{Hub, OpenFault, ShortHub};
 use hub_endless::EndlessHub;
 use hub_follow::{AfterDivergence, Follower};

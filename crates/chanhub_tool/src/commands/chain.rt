@@ -3,13 +3,13 @@
 ghost use Rattle.std.specs.Prelude.{◌≡◌, ◌≤◌, ◌⊎◌, ℕ, List, Option, IfOk, IfErr, IfSome, OnOk, OnErr, codes, map};
 ghost use Rattle.std.specs.Io.KnownBytes.{Appends};
 ghost use Rattle.chanhub_tool.specs.declared.commands.chain.Broken.TheVariants.{Unread};
-ghost use Rattle.hub_chain.specs.Texts.{AreWhole, IsAt};
+ghost use Rattle.hub_cut.specs.Texts.{AreWhole, IsAt};
 ghost use Rattle.chanhub_tool.specs.Files.{Hold, IsRead};
 
 use crate::files::{Input, file_of, name_unopened};
 use clap::{Arg, ArgAction, ArgMatches, Command};
 use hub_base::{MOST_BYTES, TextFault};
-use hub_chain::{Chain, ChainFault};
+use hub_cut::{Chain, ChainFault};
 use hub_replay::{
     Counted, ReplayFault, Sink, SourceFault, WriteFailed, read_up_to, tell_fault, write_pieces,
 };

@@ -5,7 +5,7 @@ use crate::compare::same;
 use hub_base::{
     Case, Cases, CasesExt, Entry, Event, Fault, Kind, Pid, Port, Step, TextFault, Value, cases_from,
 };
-use hub_chain::ChainFault;
+use hub_cut::ChainFault;
 use hub_core::CaseRoom;
 use hub_follow::{AfterDivergence, Follower, NotMade};
 use std::alloc::Global;

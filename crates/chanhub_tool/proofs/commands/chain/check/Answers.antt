@@ -2,8 +2,8 @@ use Rattle.std.proofs.Common.{◌≡◌, ◌∙◌, ℕ, ◌+◌, ◌<◌, List,
 use Rattle.std.specs.Prelude.{get_or}
 use Rattle.std.proofs.lemmas.Option.{slice_get-get_or}
 use Rattle.std.proofs.Math.Seq.{take-length}
-use Rattle.hub_chain.specs.Texts.{AreWhole, IsAt, StandsAt}
-use Rattle.hub_chain.proofs.Wholes.{whole_before}
+use Rattle.hub_cut.specs.Texts.{AreWhole, IsAt, StandsAt}
+use Rattle.hub_cut.proofs.Wholes.{whole_before}
 use Rattle.chanhub_tool.proofs.Held.{as_many, reads_next}
 use Rattle.chanhub_tool.proofs.commands.chain.check.Goals as goal
 

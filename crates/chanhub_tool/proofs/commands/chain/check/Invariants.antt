@@ -1,5 +1,5 @@
 use Rattle.std.proofs.Common.{ℕ, List, map, take}
-use Rattle.hub_chain.specs.Texts.{IsAt}
+use Rattle.hub_cut.specs.Texts.{IsAt}
 use Rattle.chanhub_tool.specs.Files.{Hold}
 use Rattle.chanhub_tool.proofs.commands.chain.check.Given as goal
 

@@ -1,7 +1,7 @@
 use Rattle.std.proofs.Common.{ℕ, List, Option, subst}
 use Rattle.hub_base.specs.Journal.{JournalView}
-use Rattle.hub_chain.specs.Texts.{AreWhole, IsAt}
-use Rattle.hub_chain.proofs.Wholes.{none_whole}
+use Rattle.hub_cut.specs.Texts.{AreWhole, IsAt}
+use Rattle.hub_cut.proofs.Wholes.{none_whole}
 use Rattle.chanhub_tool.proofs.commands.chain.check_chain.Goals as goal
 
 pub returns-in-Ok-None-clause-broken : goal.returns-in-Ok-None-clause-broken

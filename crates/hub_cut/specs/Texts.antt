@@ -5,9 +5,9 @@ use Rattle.hub_base.specs.Journal.{JournalView}
 use Rattle.hub_base.specs.Text.{IsText}
 use Rattle.hub_chapters.specs.Chapters.{Chapters, last_chapter}
 use Rattle.hub_chapters.specs.Chapters.Chapters.{First, Cut}
-use Rattle.hub_chain.specs.declared.fault.ChainFault.{ChainFault}
-use Rattle.hub_chain.specs.Chains.{Stands, IsWhole}
-use Rattle.hub_chain.specs.Faults.{IsNotLegal, DoesNotFollow}
+use Rattle.hub_cut.specs.declared.fault.ChainFault.{ChainFault}
+use Rattle.hub_cut.specs.Chains.{Stands, IsWhole}
+use Rattle.hub_cut.specs.Faults.{IsNotLegal, DoesNotFollow}
 
 -- the texts are those of the chapters, in order
 abbrev pub AreTexts : Head → Chapters → List (List ℕ) → Type 0

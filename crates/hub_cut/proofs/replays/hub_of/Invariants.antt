@@ -2,7 +2,7 @@ use Rattle.std.proofs.Common.{◌≡◌, take}
 use Rattle.hub_base.specs.declared.limits.TheConstants.{MOST_STEPS}
 use Rattle.hub_core.specs.HubView.{terms_of}
 use Rattle.hub_cut.specs.Cut.{hub_with}
-use Rattle.hub_chain.proofs.replays.hub_of.Given as goal
+use Rattle.hub_cut.proofs.replays.hub_of.Given as goal
 
 abbrev pub invariant-loop-place : goal.invariant-loop-place
 invariant-loop-place l =

@@ -1,7 +1,7 @@
 use Rattle.std.proofs.Common.{rules}
-use Rattle.hub_chain.proofs.Following.{only_next}
-use Rattle.hub_chain.proofs.Steps.{few_entries}
-use Rattle.hub_chain.proofs.chains.Chain.next.Goals as goal
+use Rattle.hub_cut.proofs.Following.{only_next}
+use Rattle.hub_cut.proofs.Steps.{few_entries}
+use Rattle.hub_cut.proofs.chains.Chain.next.Goals as goal
 
 pub begins_with-requires : goal.begins_with-requires
 begins_with-requires c =

@@ -1,6 +1,6 @@
 use Rattle.std.proofs.Common.{rules}
-use Rattle.hub_chain.proofs.Wholes.{only_one, only_more}
-use Rattle.hub_chain.proofs.chains.Chain.longer.Goals as goal
+use Rattle.hub_cut.proofs.Wholes.{only_one, only_more}
+use Rattle.hub_cut.proofs.chains.Chain.longer.Goals as goal
 
 pub returns-in-None-clause-only : goal.returns-in-None-clause-only
 returns-in-None-clause-only c = only_one c.args.text.now c.args.chain c.first.result c.in-None.is c.first.ensures.only

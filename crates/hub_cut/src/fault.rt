@@ -1,8 +1,8 @@
 //! Why a text is not the next chapter of a chain.
 
 ghost use Rattle.std.specs.Prelude.{◌≡◌, ◌+◌, ◌≤◌};
-ghost use Rattle.hub_chain.specs.Faults.{fault_of_read, refused_at};
-ghost use Rattle.hub_chain.specs.declared.fault.ChainFault.TheVariants as chain;
+ghost use Rattle.hub_cut.specs.Faults.{fault_of_read, refused_at};
+ghost use Rattle.hub_cut.specs.declared.fault.ChainFault.TheVariants as chain;
 
 use hub_base::{Fault, MOST_BYTES, NoMemory, ReadFault, TextFault};
 use std::alloc::AllocError;

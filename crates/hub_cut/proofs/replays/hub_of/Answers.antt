@@ -8,10 +8,10 @@ use Rattle.hub_laws.specs.Journals.{IsLegal}
 use Rattle.hub_laws.proofs.Totals.{take_next}
 use Rattle.hub_core.specs.HubView.{HubView, Refuses, terms_of, with_entry}
 use Rattle.hub_cut.specs.Cut.{hub_with}
-use Rattle.hub_chain.specs.Faults.{IsRefused}
-use Rattle.hub_chain.proofs.Places.{all_there, steps_there}
-use Rattle.hub_chain.proofs.Steps.{few_entries, fits_all, is_refused, no_places, refused_so}
-use Rattle.hub_chain.proofs.replays.hub_of.Goals as goal
+use Rattle.hub_cut.specs.Faults.{IsRefused}
+use Rattle.hub_cut.proofs.Places.{all_there, steps_there}
+use Rattle.hub_cut.proofs.Steps.{few_entries, fits_all, is_refused, no_places, refused_so}
+use Rattle.hub_cut.proofs.replays.hub_of.Goals as goal
 
 pub step_into-requires : goal.step_into-requires
 step_into-requires c =

@@ -14,11 +14,11 @@ use Rattle.hub_laws.proofs.Journals.{begins-law}
 use Rattle.hub_chapters.specs.Chapters.{Chapters, last_chapter}
 use Rattle.hub_chapters.specs.Chapters.Chapters.{First, Cut}
 use Rattle.hub_chapters.specs.Checkpoint.{checkpoint}
-use Rattle.hub_chain.specs.declared.fault.ChainFault.{ChainFault}
-use Rattle.hub_chain.specs.declared.fault.ChainFault.TheVariants as chain
-use Rattle.hub_chain.specs.Chains.{IsChapter, Stands}
-use Rattle.hub_chain.specs.Faults.{Says, RefusedAt, DifferAt, GoesOn, IsNotLegal, DoesNotFollow}
-use Rattle.hub_chain.proofs.Places.{around, still_there}
+use Rattle.hub_cut.specs.declared.fault.ChainFault.{ChainFault}
+use Rattle.hub_cut.specs.declared.fault.ChainFault.TheVariants as chain
+use Rattle.hub_cut.specs.Chains.{IsChapter, Stands}
+use Rattle.hub_cut.specs.Faults.{Says, RefusedAt, DifferAt, GoesOn, IsNotLegal, DoesNotFollow}
+use Rattle.hub_cut.proofs.Places.{around, still_there}
 
 -- What is refused
 

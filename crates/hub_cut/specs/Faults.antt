@@ -11,8 +11,8 @@ use Rattle.hub_base.specs.Runs.{state}
 use Rattle.hub_base.specs.Steps.{refusal}
 use Rattle.hub_base.specs.Text.{IsText, IsFaulty}
 use Rattle.hub_laws.specs.Journals.{IsLegal}
-use Rattle.hub_chain.specs.declared.fault.ChainFault.{ChainFault}
-use Rattle.hub_chain.specs.declared.fault.ChainFault.TheVariants as chain
+use Rattle.hub_cut.specs.declared.fault.ChainFault.{ChainFault}
+use Rattle.hub_cut.specs.declared.fault.ChainFault.TheVariants as chain
 
 -- what a fault of a reading is told as
 abbrev pub fault_of_read : ReadFault → ChainFault

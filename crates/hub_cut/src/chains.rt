@@ -11,7 +11,7 @@ use crate::beginnings::{begins_with, has_head};
 use crate::replays::hub_of;
 use hub_base::Journal;
 use hub_core::{ShortJournal, read_short_journal};
-use hub_cut::checkpoint_of;
+use crate::checkpoint_of;
 use std::alloc::Global;
 use std::marker::Model;
 
@@ -32,10 +32,10 @@ impl Model for Chain {
 }
 
 impl Chain {
-    ghost use Rattle.hub_chain.specs.Chains.{IsRead, EndsIn, Stands, Begins, Follows, IsChapter, IsWhole};
-    ghost use Rattle.hub_chain.specs.Faults.{IsNotLegal, DoesNotFollow, IsRefused};
-    ghost use Rattle.hub_chain.specs.Texts.{IsAt, StandsAt, AreWhole, IsNoNext};
-    ghost use Rattle.hub_chain.specs.declared.fault.ChainFault.TheVariants as why;
+    ghost use Rattle.hub_cut.specs.Chains.{IsRead, EndsIn, Stands, Begins, Follows, IsChapter, IsWhole};
+    ghost use Rattle.hub_cut.specs.Faults.{IsNotLegal, DoesNotFollow, IsRefused};
+    ghost use Rattle.hub_cut.specs.Texts.{IsAt, StandsAt, AreWhole, IsNoNext};
+    ghost use Rattle.hub_cut.specs.declared.fault.ChainFault.TheVariants as why;
 
     /// The chain that ends in this chapter.
     fn ending_in(alloc: Global, chapter: &ShortJournal) -> Result<Chain, ChainFault>

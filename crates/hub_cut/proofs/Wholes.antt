@@ -14,10 +14,10 @@ use Rattle.hub_chapters.specs.Chapters.{Chapters, last_chapter, AreLegal}
 use Rattle.hub_chapters.specs.Chapters.Chapters.{First, Cut}
 use Rattle.hub_chapters.specs.Checkpoint.{checkpoint}
 use Rattle.hub_chapters.proofs.Chapters.{chapters-law}
-use Rattle.hub_chain.specs.declared.fault.ChainFault.{ChainFault}
-use Rattle.hub_chain.specs.declared.fault.ChainFault.TheVariants as chain
-use Rattle.hub_chain.specs.Chains.{IsChapter, Stands, IsWhole}
-use Rattle.hub_chain.specs.Texts.{AreTexts, AreWhole, StandsAt, IsAt}
+use Rattle.hub_cut.specs.declared.fault.ChainFault.{ChainFault}
+use Rattle.hub_cut.specs.declared.fault.ChainFault.TheVariants as chain
+use Rattle.hub_cut.specs.Chains.{IsChapter, Stands, IsWhole}
+use Rattle.hub_cut.specs.Texts.{AreTexts, AreWhole, StandsAt, IsAt}
 
 -- the last elements are the same, and what stands before them
 snoc_same : {A : Type 0} (xs ys : List A) (x y : A) → xs ++ x ∷ [] ≡ ys ++ y ∷ [] → (xs ≡ ys) × (x ≡ y)

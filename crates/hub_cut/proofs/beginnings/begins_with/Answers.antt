@@ -1,7 +1,7 @@
 use Rattle.std.proofs.Common.{◌≡◌, ◌∙◌, ap, sym, refl, arith, length, take, drop}
 use Rattle.std.proofs.lemmas.Option.{slice_get_read}
-use Rattle.hub_chain.proofs.Places.{same_next, begins}
-use Rattle.hub_chain.proofs.beginnings.begins_with.Goals as goal
+use Rattle.hub_cut.proofs.Places.{same_next, begins}
+use Rattle.hub_cut.proofs.beginnings.begins_with.Goals as goal
 
 pub loop-place-preserved : goal.loop-place-preserved
 loop-place-preserved c =

@@ -1,8 +1,8 @@
 //! A chapter's entries, made again.
 
 ghost use Rattle.std.specs.Prelude.{IfOk, IfErr};
-ghost use Rattle.hub_chain.specs.Chains.{IsRead, IsHubOf, MakesText};
-ghost use Rattle.hub_chain.specs.Faults.{IsNotLegal, IsRefused};
+ghost use Rattle.hub_cut.specs.Chains.{IsRead, IsHubOf, MakesText};
+ghost use Rattle.hub_cut.specs.Faults.{IsNotLegal, IsRefused};
 
 use crate::ChainFault;
 use crate::fault::refused_at;

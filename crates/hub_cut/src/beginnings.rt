@@ -2,7 +2,7 @@
 
 ghost use Rattle.std.specs.Prelude.{◌≡◌, ◌≤◌, ◌↔◌, ◌++◌, IfErr, IsTrue, OnOk, Some, List, length, slice_get};
 ghost use Rattle.hub_base.specs.Entry.{Entry};
-ghost use Rattle.hub_chain.specs.Faults.{IsOtherHead, IsOtherBeginning};
+ghost use Rattle.hub_cut.specs.Faults.{IsOtherHead, IsOtherBeginning};
 
 use crate::ChainFault;
 use crate::fault::line_of;

@@ -1,6 +1,6 @@
 use Rattle.hub_chapters.proofs.Chapters.{chapters-law}
-use Rattle.hub_chain.proofs.Wholes.{whole_at}
-use Rattle.hub_chain.proofs.chains.Chain.chapters_are_whole.Goals as goal
+use Rattle.hub_cut.proofs.Wholes.{whole_at}
+use Rattle.hub_cut.proofs.chains.Chain.chapters_are_whole.Goals as goal
 
 pub returns-clause-chapters : goal.returns-clause-chapters
 returns-clause-chapters c = λ h chapters stands.

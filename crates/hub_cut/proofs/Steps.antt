@@ -19,8 +19,8 @@ use Rattle.hub_text.proofs.Heads.{text-again}
 use Rattle.hub_text.proofs.OneReading.{found-fits}
 use Rattle.hub_laws.specs.Journals.{IsLegal}
 use Rattle.hub_core.specs.HubView.{HubView, Refuses, places_after}
-use Rattle.hub_chain.specs.Chains.{IsHubOf, MakesText}
-use Rattle.hub_chain.specs.Faults.{IsRefused, refused_at}
+use Rattle.hub_cut.specs.Chains.{IsHubOf, MakesText}
+use Rattle.hub_cut.specs.Faults.{IsRefused, refused_at}
 
 -- What a text says
 

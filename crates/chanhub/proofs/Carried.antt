@@ -6,8 +6,8 @@ use Rattle.hub_words.specs.declared.request.ArgumentsFault.{ArgumentsFault}
 use Rattle.hub_words.specs.declared.request.ArgumentsFault.TheVariants as arguments
 use Rattle.hub_replay.specs.Devices.{AppendsBeginning}
 use Rattle.hub_replay.specs.Replay.{Replays}
-use Rattle.hub_report.specs.declared.report.Report.{Report}
-use Rattle.hub_report.specs.Reports.{IsReportOf}
+use Rattle.hub_runner.specs.declared.report.Report.{Report}
+use Rattle.hub_runner.specs.Reports.{IsReportOf}
 use Rattle.hub_runner.specs.Scripts.{AllFollow}
 use Rattle.hub_scenario.specs.Scenario.{ScenarioData, reading, run_head}
 use Rattle.chanhub.specs.declared.outcome.Outcome.{Outcome}

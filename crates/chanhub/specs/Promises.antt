@@ -8,9 +8,9 @@ use Rattle.hub_laws.specs.Journals.{IsLegal}
 use Rattle.hub_replay.specs.Devices.{AppendsBeginning}
 use Rattle.hub_replay.specs.Replay.{IsEventText, Replays, ReadsFaulty}
 use Rattle.hub_replay.specs.Verify.{DiffersAt}
-use Rattle.hub_report.specs.declared.report.Report.{Report}
-use Rattle.hub_report.specs.ReportText.{report_text}
-use Rattle.hub_report.specs.Reports.{IsReportOf}
+use Rattle.hub_runner.specs.declared.report.Report.{Report}
+use Rattle.hub_runner.specs.ReportText.{report_text}
+use Rattle.hub_runner.specs.Reports.{IsReportOf}
 use Rattle.hub_runner.specs.Scripts.{AllFollow}
 use Rattle.hub_scenario.specs.declared.limits.TheConstants.{MOST_FILE_BYTES}
 use Rattle.hub_scenario.specs.Scenario.{ScenarioData, reading, run_head}

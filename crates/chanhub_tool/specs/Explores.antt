@@ -4,7 +4,7 @@ use Rattle.std.specs.Io.KnownBytes.{Consumes, IsAtEnd}
 use Rattle.hub_base.specs.Journal.{JournalView}
 use Rattle.hub_base.specs.Reading.{text}
 use Rattle.hub_replay.specs.declared.fault.ReplayFault.TheVariants as replay
-use Rattle.hub_report.specs.Reports.{is_stalled}
+use Rattle.hub_runner.specs.Reports.{is_stalled}
 use Rattle.hub_scenario.specs.declared.fault.ScenarioFault.{ScenarioFault}
 use Rattle.hub_scenario.specs.declared.limits.TheConstants.{MOST_FILE_BYTES}
 use Rattle.hub_scenario.specs.Scenario.{ScenarioData, reading}

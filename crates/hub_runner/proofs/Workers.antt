@@ -19,7 +19,7 @@ use Rattle.hub_live.proofs.Prefixes.{prefix_self, prefix_trans}
 use Rattle.hub_scenario.specs.declared.script.ScriptStep.{ScriptStep}
 use Rattle.hub_scenario.specs.declared.script.ScriptStep.TheVariants.{Send, Recv, Select, Close, Range}
 use Rattle.hub_scenario.specs.ChoiceWords.{choice_word}
-use Rattle.hub_report.specs.Reports.{is_stalled}
+use Rattle.hub_runner.specs.Reports.{is_stalled}
 use Rattle.hub_runner.specs.Asked.{Asked, asked}
 use Rattle.hub_runner.specs.Scripts.{asks, gets, is_range, taken_after, left, Follows}
 use Rattle.hub_runner.specs.CutShort.{steps_asked}

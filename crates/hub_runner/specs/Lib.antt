@@ -6,3 +6,9 @@ pub mod CutShort
 pub mod CutShortRows
 pub mod Working
 pub mod Running
+pub mod Reports
+pub mod ReportRows
+pub mod ReportText
+pub mod TextRows
+pub mod Replays
+pub mod Prelude

@@ -12,7 +12,7 @@ use Rattle.hub_base.specs.declared.event.Event.{Event}
 use Rattle.hub_base.specs.declared.event.What.{What}
 use Rattle.hub_base.specs.Lines.{call}
 use Rattle.hub_laws.specs.Received.{value_got}
-use Rattle.hub_report.specs.Reports.{is_stalled}
+use Rattle.hub_runner.specs.Reports.{is_stalled}
 use Rattle.hub_scenario.specs.declared.script.ScriptStep.{ScriptStep}
 use Rattle.hub_scenario.specs.declared.script.ScriptStep.TheVariants.{Send, Recv, Select, Close, Range}
 use Rattle.hub_scenario.specs.Scenario.{ScenarioData, run_head}

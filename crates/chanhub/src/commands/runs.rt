@@ -13,7 +13,7 @@ use crate::refusal::Refusal;
 use hub_base::NoMemory;
 use hub_core::write_short_journal;
 use hub_replay::{Sink, Source, SourceFault, read_up_to, write_whole};
-use hub_report::{ShortReport, write_short_report};
+use hub_runner::{ShortReport, write_short_report};
 use hub_runner::{NoGate, run_scenario_short};
 use hub_scenario::{MOST_FILE_BYTES, read_scenario};
 use std::alloc::Global;

@@ -1,3 +1,0 @@
-pub mod Ports
-pub mod Replays
-mod Appended

@@ -1,6 +1,0 @@
-pub mod Reports
-pub mod ReportRows
-pub mod ReportText
-pub mod TextRows
-pub mod Replays
-pub mod Prelude

@@ -8,7 +8,7 @@ use Rattle.hub_runner.specs.Reports.{is_stalled}
 use Rattle.hub_scenario.specs.declared.fault.ScenarioFault.{ScenarioFault}
 use Rattle.hub_scenario.specs.declared.limits.TheConstants.{MOST_FILE_BYTES}
 use Rattle.hub_scenario.specs.Scenario.{ScenarioData, reading}
-use Rattle.hub_schedules.specs.Never.{NeverTells, NoRunTells}
+use Rattle.hub_explore.specs.Never.{NeverTells, NoRunTells}
 use Rattle.hub_explore.specs.Answers.{HasMany}
 use Rattle.hub_explore.specs.Runs.{Shows}
 use Rattle.chanhub_tool.specs.declared.commands.explore.Verdict.{Verdict}

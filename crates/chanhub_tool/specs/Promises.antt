@@ -2,8 +2,8 @@
 use Rattle.std.specs.Prelude.{◌⊎◌, ℕ, List, Option}
 use Rattle.hub_replay.specs.declared.fault.ReplayFault.{ReplayFault}
 use Rattle.hub_replay.specs.declared.fault.ReplayFault.TheVariants as replay
-use Rattle.hub_serve.specs.Serve.{HasNamed, HasBegun, HasStopped}
-use Rattle.hub_serve.specs.Talks.{HasAnswered}
+use Rattle.hub_replay.specs.Serve.{HasNamed, HasBegun, HasStopped}
+use Rattle.hub_replay.specs.Talks.{HasAnswered}
 use Rattle.chanhub_tool.specs.declared.asked.Asked.{Asked}
 use Rattle.chanhub_tool.specs.declared.asked.Form.{Form}
 use Rattle.chanhub_tool.specs.declared.asked.Form.TheVariants as form

@@ -5,3 +5,10 @@ pub mod Replay
 pub mod Replayed
 pub mod Verify
 pub mod VerifyRows
+pub mod Answers
+pub mod Lines
+pub mod Running
+pub mod Stands
+pub mod Talks
+pub mod Serve
+pub mod Conversing

@@ -8,18 +8,27 @@
 
 mod args;
 mod comparison;
+mod conversation;
 mod device;
 mod fault;
 mod fault_lines;
+mod lines;
+mod pair;
 mod pieces;
 mod replayer;
+mod running;
+mod server;
 mod steps;
+mod talk;
 mod verifier;
 
 pub use args::arguments;
 pub use device::{Counted, Sink, Source};
 pub use fault::{ReplayFault, SourceFault, WriteFailed};
 pub use fault_lines::{ProgramFault, tell_fault, write_pieces};
+pub use pair::{Opening, Pair};
 pub use pieces::{CHUNK, read_up_to, write_whole};
 pub use replayer::replay;
+pub use server::converse;
+pub use talk::Talk;
 pub use verifier::{Compared, verify};

@@ -4,12 +4,12 @@ ghost use Rattle.std.specs.Prelude.{◌≡◌, ◌≤◌, []};
 ghost use Rattle.hub_replay.specs.Devices.{Failed};
 ghost use Rattle.hub_replay.specs.declared.fault.ReplayFault.{ReplayFault};
 ghost use Rattle.hub_replay.specs.FaultLines.{fault_text, line_of, status_of, TellsOnce};
-ghost use Rattle.hub_serve.specs.Serve.{HasConversed};
+ghost use Rattle.hub_replay.specs.Serve.{HasConversed};
 ghost use Rattle.chanhub_tool.specs.Promises.{HasEnded};
 
 use clap::Command;
 use hub_replay::{Counted, Sink, tell_fault};
-use hub_serve::{Pair, Talk, converse};
+use hub_replay::{Pair, Talk, converse};
 use std::alloc::Global;
 use std::marker::{Brand, PhantomData};
 

@@ -1,9 +1,0 @@
-mod Newlines
-mod FirstLines
-mod EntryLines
-mod Counting
-mod Stages
-mod Ending
-mod Hearing
-mod Saying
-mod Talking

@@ -3,7 +3,7 @@ use Rattle.std.specs.Prelude.{◌≡◌, Bool, true, false, Option, None, Some}
 use Rattle.std.specs.Option.{option_map}
 use Rattle.hub_core.specs.HubView.{ShortInMemory}
 use Rattle.hub_cut.specs.Recorder.{hub_in}
-use Rattle.hub_endless.specs.Endless.{CutsNow, EndlessView}
+use Rattle.hub_served.specs.Endless.{CutsNow, EndlessView}
 use Rattle.hub_session.specs.declared.session.Opened.{Opened}
 use Rattle.hub_session.specs.declared.session.Opened.TheVariants.{Limited, Endless, Following}
 use Rattle.hub_session.specs.declared.session.Session.{Session}

@@ -14,7 +14,7 @@ use Rattle.hub_chapters.specs.Chapters.{Chapters, history}
 use Rattle.hub_cut.specs.declared.totals.Totals.{Totals}
 use Rattle.hub_cut.specs.Recorder.{head_of_all, hub_in, journal_of}
 use Rattle.hub_cut.specs.Totals.{totals_at}
-use Rattle.hub_endless.specs.Endless.{Explains}
+use Rattle.hub_served.specs.Endless.{Explains}
 use Rattle.hub_session.specs.declared.session.Opened.{Opened}
 use Rattle.hub_session.specs.declared.session.Opened.TheVariants.{Limited, Endless, Following}
 

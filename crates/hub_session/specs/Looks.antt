@@ -5,8 +5,8 @@ use Rattle.hub_base.specs.Entry.{Entry}
 use Rattle.hub_base.specs.Journal.{JournalView}
 use Rattle.hub_base.specs.Notation.{port}
 use Rattle.hub_cut.specs.declared.totals.Totals.{Totals}
-use Rattle.hub_follow.specs.Clock.{clock_of}
-use Rattle.hub_follow.specs.Follow.{next_of, step_of}
+use Rattle.hub_served.specs.Clock.{clock_of}
+use Rattle.hub_served.specs.Follow.{next_of, step_of}
 use Rattle.hub_session.specs.declared.session.Opened.{Opened}
 use Rattle.hub_session.specs.declared.session.Opened.TheVariants.{Following}
 use Rattle.hub_session.specs.declared.session.Session.{Session}

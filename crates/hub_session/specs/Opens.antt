@@ -9,12 +9,12 @@ use Rattle.hub_core.specs.declared.opening.OpenFault.TheVariants as fault
 use Rattle.hub_base.specs.declared.limits.TheConstants.{MOST_STEPS}
 use Rattle.hub_chapters.specs.Chapters.Chapters.{First}
 use Rattle.hub_cut.specs.Recorder.{IsKeep}
-use Rattle.hub_endless.specs.Endless.{EndlessView, Explains, NoneWaits}
+use Rattle.hub_served.specs.Endless.{EndlessView, Explains, NoneWaits}
 use Rattle.hub_cut.specs.declared.fault.ChainFault.{ChainFault}
 use Rattle.hub_cut.specs.Faults.{IsNotLegal}
-use Rattle.hub_follow.specs.declared.follower.AfterDivergence.{AfterDivergence}
-use Rattle.hub_follow.specs.declared.follower.AfterDivergence.TheVariants.{GoesOn, Ends}
-use Rattle.hub_follow.specs.Follow.{FollowView, FollowsAnew}
+use Rattle.hub_served.specs.declared.follower.AfterDivergence.{AfterDivergence}
+use Rattle.hub_served.specs.declared.follower.AfterDivergence.TheVariants.{GoesOn, Ends}
+use Rattle.hub_served.specs.Follow.{FollowView, FollowsAnew}
 use Rattle.hub_live.specs.Locked.{none_waits}
 use Rattle.hub_session.specs.declared.session.Opened.{Opened}
 use Rattle.hub_session.specs.declared.session.Opened.TheVariants.{Limited, Endless, Following}

@@ -9,10 +9,10 @@ use Rattle.hub_base.specs.Head.{is_of}
 use Rattle.hub_core.specs.HubView.{ShortInMemory}
 use Rattle.hub_chapters.specs.Chapters.{Chapters, history}
 use Rattle.hub_cut.specs.Recorder.{RefusesStep, begins, chapter_out, head_of_all, hub_in, out_or}
-use Rattle.hub_endless.specs.Endless.{EndlessView, Explains, ServesMade}
-use Rattle.hub_endless.specs.Endless as endless
-use Rattle.hub_follow.specs.declared.not_made.NotMade.{NotMade}
-use Rattle.hub_follow.specs.Follow.{FollowView, FollowsStep, with_locked}
+use Rattle.hub_served.specs.Endless.{EndlessView, Explains, ServesMade}
+use Rattle.hub_served.specs.Endless as endless
+use Rattle.hub_served.specs.declared.not_made.NotMade.{NotMade}
+use Rattle.hub_served.specs.Follow.{FollowView, FollowsStep, with_locked}
 use Rattle.hub_live.specs.Locked.{IsReplyTo, ServesStep, answer_for, without_answer}
 use Rattle.hub_session.specs.declared.session.Opened.{Opened}
 use Rattle.hub_session.specs.declared.session.Opened.TheVariants.{Limited, Endless, Following}

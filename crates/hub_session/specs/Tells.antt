@@ -18,8 +18,8 @@ use Rattle.hub_base.specs.Content.Content.{Num}
 use Rattle.hub_cut.specs.declared.totals.Totals.{Totals}
 use Rattle.hub_cut.specs.declared.fault.ChainFault.{ChainFault}
 use Rattle.hub_cut.specs.declared.fault.ChainFault.TheVariants as chain
-use Rattle.hub_follow.specs.declared.not_made.NotMade.{NotMade}
-use Rattle.hub_follow.specs.declared.not_made.NotMade.TheVariants.{Refused, NotYet, Diverged}
+use Rattle.hub_served.specs.declared.not_made.NotMade.{NotMade}
+use Rattle.hub_served.specs.declared.not_made.NotMade.TheVariants.{Refused, NotYet, Diverged}
 use Rattle.hub_session.specs.declared.structs.CountsC.{CountsC}
 use Rattle.hub_session.specs.declared.structs.FollowC.{FollowC}
 use Rattle.hub_session.specs.declared.structs.NextC.{NextC}

@@ -7,7 +7,7 @@ use crate::stepping::hold;
 use crate::structs::CutC;
 use hub_base::NoMemory;
 use hub_core::ShortHub;
-use hub_endless::EndlessHub;
+use hub_served::EndlessHub;
 
 /// Cuts a hub that never ends: whether it did. It does not while a chapter waits to be read, and not if memory is refused.
 fn cut_endless(hub: &mut EndlessHub, out: &mut Option<ShortHub>, hands_out: bool) -> bool

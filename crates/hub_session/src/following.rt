@@ -13,7 +13,7 @@ use crate::telling::{
     bit_of, clock_told, next_told, tell_diverged, tell_made, tell_nothing, tell_refused,
 };
 use hub_base::{EntryRef, Pid};
-use hub_follow::{Follower, NotMade};
+use hub_served::{Follower, NotMade};
 
 /// Makes a step of a hub that follows a journal, and tells what it came to.
 #[inline(never)]

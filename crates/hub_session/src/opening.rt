@@ -11,7 +11,7 @@ use hub_base::Edition;
 use hub_cut::ChainFault;
 use hub_core::OpenFault;
 use hub_cut::MOST_KEEP;
-use hub_follow::AfterDivergence;
+use hub_served::AfterDivergence;
 use std::alloc::Global;
 
 /// A value that may be used by one thread and then by another.

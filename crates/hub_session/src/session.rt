@@ -12,8 +12,8 @@ ghost use Rattle.hub_session.specs.Opens.{IsAnew, IsOpened, IsOpenedEndless, IsO
 use hub_base::{Edition, Head};
 use hub_cut::ChainFault;
 use hub_core::{Hub, OpenFault, ShortHub};
-use hub_endless::EndlessHub;
-use hub_follow::{AfterDivergence, Follower};
+use hub_served::EndlessHub;
+use hub_served::{AfterDivergence, Follower};
 use hub_live::under_lock::Locked;
 use std::alloc::Global;
 

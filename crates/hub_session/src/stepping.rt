@@ -24,7 +24,7 @@ use hub_base::{
     CASE_PLACES, Case, CaseSlice, Entry, EntryRef, Event, Fault, Pid, Port, Step, StepRef, Value,
 };
 use hub_core::ShortHub;
-use hub_endless::EndlessHub;
+use hub_served::EndlessHub;
 use hub_live::under_lock::Locked;
 
 /// How many places there are for a call of few cases.

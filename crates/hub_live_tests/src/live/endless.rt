@@ -5,7 +5,7 @@ use crate::compare::same;
 use hub_base::{Edition, Entry, Event, Fault, Pid, Port};
 use hub_core::ShortHub;
 use hub_cut::Totals;
-use hub_endless::EndlessHub;
+use hub_served::EndlessHub;
 use std::process::Abort;
 
 /// What happens at the hub.

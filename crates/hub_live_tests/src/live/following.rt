@@ -7,7 +7,7 @@ use hub_base::{
 };
 use hub_cut::ChainFault;
 use hub_core::CaseRoom;
-use hub_follow::{AfterDivergence, Follower, NotMade};
+use hub_served::{AfterDivergence, Follower, NotMade};
 use std::alloc::Global;
 use std::process::Abort;
 use std::test::Fail;

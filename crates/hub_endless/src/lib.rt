@@ -1,9 +1,0 @@
-//! A hub that never ends, and the answers that wait to be picked up: what threads share under a lock.
-//!
-//! It cuts itself as a `hub_cut::Recorder` does. Nobody can tell when: each answer, also one that waits across a cut, is
-//! the one that the whole history gives.
-#![tactic(auto)]
-
-mod endless_hub;
-
-pub use endless_hub::EndlessHub;

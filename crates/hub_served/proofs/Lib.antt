@@ -1,0 +1,3 @@
+pub mod Serving
+pub mod Turns
+pub mod Keeping

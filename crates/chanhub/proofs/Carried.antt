@@ -1,9 +1,9 @@
 -- What was done for a request is what the program has done; and why a request was refused, why the program did nothing.
 use Rattle.std.proofs.Common.{◌≡◌, ℕ, zero, suc, arith, List, Bool, Option, Ok, inl, inr, refl, codes}
 use Rattle.hub_laws.specs.Journals.{IsLegal}
-use Rattle.hub_words.specs.Words.{AsksFor, AsksForReplay}
-use Rattle.hub_words.specs.declared.request.ArgumentsFault.{ArgumentsFault}
-use Rattle.hub_words.specs.declared.request.ArgumentsFault.TheVariants as arguments
+use Rattle.chanhub.specs.Words.{AsksFor, AsksForReplay}
+use Rattle.chanhub.specs.declared.words.request.ArgumentsFault.{ArgumentsFault}
+use Rattle.chanhub.specs.declared.words.request.ArgumentsFault.TheVariants as arguments
 use Rattle.hub_replay.specs.Devices.{AppendsBeginning}
 use Rattle.hub_replay.specs.Replay.{Replays}
 use Rattle.hub_runner.specs.declared.report.Report.{Report}

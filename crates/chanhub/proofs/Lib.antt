@@ -1,2 +1,3 @@
+mod Asked
 mod Refused
 mod Carried

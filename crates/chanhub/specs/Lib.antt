@@ -1,3 +1,4 @@
+pub mod Words
 pub mod Refusals
 pub mod FaultLines
 pub mod Statuses

@@ -14,7 +14,7 @@ use Rattle.hub_runner.specs.Reports.{IsReportOf}
 use Rattle.hub_runner.specs.Scripts.{AllFollow}
 use Rattle.hub_scenario.specs.declared.limits.TheConstants.{MOST_FILE_BYTES}
 use Rattle.hub_scenario.specs.Scenario.{ScenarioData, reading, run_head}
-use Rattle.hub_words.specs.Words.{AsksFor, AsksForReplay}
+use Rattle.chanhub.specs.Words.{AsksFor, AsksForReplay}
 use Rattle.chanhub.specs.declared.refusal.Refusal.{Refusal}
 use Rattle.chanhub.specs.declared.refusal.Refusal.TheVariants as refusal
 use Rattle.hub_replay.specs.declared.fault.ReplayFault.TheVariants as replay

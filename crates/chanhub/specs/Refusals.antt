@@ -1,6 +1,6 @@
 -- What a fault of a part of the program is to the program.
-use Rattle.hub_words.specs.declared.request.ArgumentsFault.{ArgumentsFault}
-use Rattle.hub_words.specs.declared.request.ArgumentsFault.TheVariants as arguments
+use Rattle.chanhub.specs.declared.words.request.ArgumentsFault.{ArgumentsFault}
+use Rattle.chanhub.specs.declared.words.request.ArgumentsFault.TheVariants as arguments
 use Rattle.hub_replay.specs.declared.fault.SourceFault.{SourceFault}
 use Rattle.hub_replay.specs.declared.fault.ReplayFault.TheVariants as replay
 use Rattle.hub_replay.specs.Replay.{replay_fault}

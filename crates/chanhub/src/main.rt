@@ -7,6 +7,7 @@ mod files;
 mod outcome;
 mod program;
 mod refusal;
+mod words;
 
 use hub_replay::{Counted, arguments, tell_fault};
 use program::run_words;

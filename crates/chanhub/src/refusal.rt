@@ -9,7 +9,7 @@ use hub_base::NoMemory;
 use hub_replay::{ReplayFault, SourceFault, WriteFailed};
 use hub_runner::RunFault;
 use hub_scenario::ScenarioFault;
-use hub_words::ArgumentsFault;
+use crate::words::ArgumentsFault;
 
 /// Why the program did not do what it was asked for.
 #[derive(Clone, Copy, Debug, PartialEq, Eq)]

@@ -1,3 +1,9 @@
+pub mod Reports
+pub mod ReportRows
+pub mod ReportText
+pub mod TextRows
+pub mod Replays
+pub mod Prelude
 pub mod Asked
 pub mod Scripts
 pub mod Ports
@@ -6,9 +12,3 @@ pub mod CutShort
 pub mod CutShortRows
 pub mod Working
 pub mod Running
-pub mod Reports
-pub mod ReportRows
-pub mod ReportText
-pub mod TextRows
-pub mod Replays
-pub mod Prelude

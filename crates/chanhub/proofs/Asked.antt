@@ -2,7 +2,7 @@
 use Rattle.std.proofs.Common.{◌≡◌, ℕ, ◌≤◌, ◌<◌, ◌↔◌, Bool, IsTrue, List, [], ◌∷◌, length, map, get_or, codes, sym, ap, ◌∙◌, arith, Some}
 use Rattle.std.specs.Str.{bytes_eq}
 use Rattle.std.proofs.lemmas.Slice.Eq.{bytes_eq-Decides}
-use Rattle.hub_words.specs.Words.{AsksFor, AsksForReplay}
+use Rattle.chanhub.specs.Words.{AsksFor, AsksForReplay}
 
 second : (name text : List ℕ) → AsksForReplay (name ∷ text ∷ []) → text ≡ codes "replay"
 second name text (other, same) = cc

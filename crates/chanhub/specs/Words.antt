@@ -1,8 +1,8 @@
 -- What a program's arguments ask for, where that can be told without a parse.
 use Rattle.std.specs.Prelude.{◌≡◌, ℕ, ◌&&◌, ◌||◌, ◌==◌, Bool, false, not, IsTrue, List, [], ◌∷◌, codes, drop, slice_get, slice_index, Some}
 use Rattle.std.specs.Str.{bytes_eq}
-use Rattle.hub_words.specs.declared.request.Request.{Request}
-use Rattle.hub_words.specs.declared.request.Request.TheVariants.{Replay, Run, Verify}
+use Rattle.chanhub.specs.declared.words.request.Request.{Request}
+use Rattle.chanhub.specs.declared.words.request.Request.TheVariants.{Replay, Run, Verify}
 
 -- the one argument behind the program's name is `replay`
 abbrev pub AsksForReplay : List (List ℕ) → Type 0

@@ -1,7 +1,7 @@
 -- None of the arguments so far is an unknown option.
 use Rattle.std.proofs.Common.{◌≡◌, map, drop}
-use Rattle.hub_words.specs.Words.{any_unknown_option}
-use Rattle.hub_words.proofs.options.any_unknown_option.Given as goal
+use Rattle.chanhub.specs.Words.{any_unknown_option}
+use Rattle.chanhub.proofs.words.options.any_unknown_option.Given as goal
 
 abbrev pub invariant-loop-word : goal.invariant-loop-word
 invariant-loop-word g l =

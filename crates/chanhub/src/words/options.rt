@@ -1,7 +1,7 @@
 //! What can be told of the arguments without a parse.
 
 ghost use Rattle.std.specs.Prelude.{◌≡◌, ◌↔◌, map, IsTrue, IfSome};
-ghost use Rattle.hub_words.specs.Words.{AsksFor, AsksForReplay, HasUnknownOption, any_unknown_option, is_unknown_option};
+ghost use Rattle.chanhub.specs.Words.{AsksFor, AsksForReplay, HasUnknownOption, any_unknown_option, is_unknown_option};
 
 use std::convert::AsStr;
 

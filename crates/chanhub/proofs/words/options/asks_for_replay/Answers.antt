@@ -1,5 +1,5 @@
-use Rattle.hub_words.proofs.Asked.{two-ask}
-use Rattle.hub_words.proofs.options.asks_for_replay.Goals as goal
+use Rattle.chanhub.proofs.Asked.{two-ask}
+use Rattle.chanhub.proofs.words.options.asks_for_replay.Goals as goal
 
 pub returns-in-len2 : goal.returns-in-len2
 returns-in-len2 g c =

@@ -1,7 +1,7 @@
 //! What the arguments ask for, and why they ask for nothing.
 
 ghost use Rattle.std.specs.Prelude.{◌≡◌};
-ghost use Rattle.hub_words.specs.declared.request.ArgumentsFault.TheVariants as fault;
+ghost use Rattle.chanhub.specs.declared.words.request.ArgumentsFault.TheVariants as fault;
 
 use std::alloc::AllocError;
 

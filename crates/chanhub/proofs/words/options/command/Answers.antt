@@ -1,5 +1,5 @@
-use Rattle.hub_words.proofs.Asked.{second-asks}
-use Rattle.hub_words.proofs.options.command.Goals as goal
+use Rattle.chanhub.proofs.Asked.{second-asks}
+use Rattle.chanhub.proofs.words.options.command.Goals as goal
 
 pub returns-in-len2-up : goal.returns-in-len2-up
 returns-in-len2-up g c =

@@ -1,11 +1,11 @@
 //! From the arguments to what they ask for.
 
 ghost use Rattle.std.specs.Prelude.{◌≡◌, ◌↔◌, map, IsOk, IfOk, IfSome, IsErrOf};
-ghost use Rattle.hub_words.specs.Words.{AsksFor, AsksForReplay, HasUnknownOption, IsReplay, IsRun, IsVerify, command_of};
+ghost use Rattle.chanhub.specs.Words.{AsksFor, AsksForReplay, HasUnknownOption, IsReplay, IsRun, IsVerify, command_of};
 
-use crate::grammar::{run_command, verify_command};
-use crate::options::{asks_for_replay, command, has_unknown_option};
-use crate::{ArgumentsFault, Request};
+use crate::words::grammar::{run_command, verify_command};
+use crate::words::options::{asks_for_replay, command, has_unknown_option};
+use crate::words::{ArgumentsFault, Request};
 use clap::error::ErrorKind;
 use clap::{ArgMatches, Command, Error};
 use std::alloc::{AllocError, Global};

@@ -16,6 +16,7 @@
     limits     what check_limits.py says of numbers
     width      lines of definitions, of proofs and of README.md are not too wide to read
     words      pages have few words
+    edits      README says how many edits the gate tries
 
 Prints a line for each thing that is wrong, and the status is 1 where there is any. With --write the lines of the sources are put into
 quotations first.
@@ -33,7 +34,7 @@ import check_limits
 from claims import files, read, sources
 from crates import ROOT
 
-MOST_WORDS = 50500
+MOST_WORDS = 45000
 MOST_WORDS_OF_README = 900
 COLUMNS = 159
 COLUMNS_OF_README = 110
@@ -52,6 +53,9 @@ ROW_OF_LIST = re.compile(r'^(?:\| )?`(src/[\w/]+?)(?:\.rt)?`[^|\n]* \|', re.M)
 NAMED = re.compile(r'`(src/[\w/]+?)(?:\.rt)?`|`([\w/]+)\.rt`')
 ROW_OF_CHANGING = re.compile(r'^(?:\| )?`(\w+)`(?: \*)? \| (.*?) \|', re.M)
 STEP = re.compile(r'\bReopen\b')
+EDITS_OF_GATE = re.compile(r'^gate: yes$', re.M)
+COUNTED_EDITS = re.compile(r'rejects (\w+)\s+deliberately wrong')
+NUMBERS = 'no one two three four five six seven eight nine ten eleven twelve'.split()
 
 
 def pages():
@@ -191,8 +195,15 @@ def words():
             yield f'{what}: {count}, and at most {most} are wanted'
 
 
+def edits():
+    tried = sum(len(EDITS_OF_GATE.findall(read(path))) for path in files('*', 'edits.txt'))
+    said = COUNTED_EDITS.search(read('README.md'))
+    if not said or said[1] != NUMBERS[tried]:
+        yield f'README.md: the gate tries {tried}'
+
+
 CHECKS = {'links': links, 'quotes': quotes, 'lists': lists, 'changing': changing, 'claims': check_claims.wrong, 'limits': check_limits.wrong,
-          'width': width, 'words': words}
+          'width': width, 'words': words, 'edits': edits}
 
 
 def main():

@@ -8,6 +8,7 @@ live        `hub_trials` beside the plain hubs of live_peer, and beside channels
             many instructions one of its calls takes
 scenarios   `hub_trials` beside `chanhub run`
 capi        the C library beside the plain hub of live_peer, called from C: c_times.c, linked with each; and called from Rust
+costs       the instructions of a call of the C library in hubs of each kind: c_costs.c
 
 live_peer, crossbeam_peer, go_peer and rust_peer are built, each where its tools are. Journals and scenarios are made in FOLDER, where
 they are not there. RUNS (10, or what the environment says) is how often each program runs, in turn with the others. A replay
@@ -38,18 +39,23 @@ CHANHUB = os.path.join(ROOT, 'crates', 'chanhub', 'out', 'chanhub')
 TRIALS = os.path.join(ROOT, 'crates', 'hub_trials', 'out', 'hub_trials')
 LIBRARY = os.path.join(ROOT, 'capi', 'out', 'libchanhub.a')
 C_TIMES = os.path.join(HERE, 'c_times.c')
+C_COSTS = os.path.join(HERE, 'c_costs.c')
 PEER_LIBRARY = os.path.join(HERE, 'live_peer', 'target', 'release', 'liblive_peer.a')
 PEER_BYTES_LIBRARY = os.path.join(HERE, 'live_peer', 'target', 'bytes', 'release', 'liblive_peer.a')
 RUNS = int(os.environ.get('RUNS', '10'))
 REPEATS = int(os.environ.get('REPEATS', '8'))
 SETS = 3
 JOURNALS = ('hand_overs', 'bursts', 'selects', 'bytes')
-GROWTH = ('open_calls', 'dead_entries', 'stalls', 'one_busy', 'worst_close', 'faults')
+GROWTH = ('open_calls', 'dead_entries', 'stalls', 'one_busy', 'worst_close', 'faults', 'idle_workers', 'renewed_workers', 'cancels',
+          'many_cancels', 'lives')
 WORKLOADS = ('alone', 'ping_pong', 'one_to_one', 'four_to_four', 'select_over_four', 'looks_1', 'looks_2', 'looks_4')
 # of c_times.c: what is timed, and of what one thread does also the instructions of a call
 C_WORKLOADS = ('hand_overs', 'buffered', 'one_to_one', 'four_to_four', 'select_over_four', 'alone', 'alone_select', 'look', 'journal')
 C_COUNTED = ('alone', 'alone_select', 'look')
 C_CALLS = 200000
+# of c_costs.c, and between how many calls it is counted: these are whole rounds of each kind
+C_KINDS = ('single', 'many', 'endless', 'chapters', 'deep', 'empty', 'text', 'followed', 'early', 'late', 'reopen')
+C_MARGIN = (128000, 256000)
 # what each workload of hub_trials begins with, `alone` first; and between how many calls it is counted
 BEGINNING = 'hub_trials::beginning::hold_with_ports*'
 COUNTED = (40000, 80000)
@@ -297,10 +303,10 @@ def scenarios(folder, _):
     print_table('Scenarios, in thousands a second', 'hub_trials', 'chanhub run', rows)
 
 
-def c_times(name, library, folder):
-    """The program c_times, linked with this library."""
-    program = os.path.join(folder, 'c_times_' + name)
-    words = ['cc', '-O2', '-std=c11', '-D_POSIX_C_SOURCE=200809L', '-I' + os.path.join(ROOT, 'capi'), C_TIMES, library]
+def linked(source, name, library, folder):
+    """A program of this source, linked with this library."""
+    program = os.path.join(folder, name)
+    words = ['cc', '-O2', '-std=c11', '-D_POSIX_C_SOURCE=200809L', '-I' + os.path.join(ROOT, 'capi'), source, library]
     subprocess.run([*words, '-lpthread', '-ldl', '-lm', '-o', program], check=True)
     return program
 
@@ -334,9 +340,9 @@ def c_rows(programs):
 
 def capi(folder, _):
     os.makedirs(folder, exist_ok=True)
-    programs = [c_times('chanhub', LIBRARY, folder)]
+    programs = [linked(C_TIMES, 'c_times_chanhub', LIBRARY, folder)]
     if build(NUMBERS) and build(BYTES):
-        programs += [c_times('numbers', PEER_LIBRARY, folder), c_times('bytes', PEER_BYTES_LIBRARY, folder)]
+        programs += [linked(C_TIMES, 'c_times_numbers', PEER_LIBRARY, folder), linked(C_TIMES, 'c_times_bytes', PEER_BYTES_LIBRARY, folder)]
     title = 'The C library, in thousands of calls a second, and of bytes of the journal a second'
     print_beside(title, 'libchanhub', [NUMBERS.name, BYTES.name], c_rows(programs))
     from_rust = build(RUST) if has_valgrind() else None
@@ -344,6 +350,21 @@ def capi(folder, _):
         from_c = call_instructions(programs[0], '1', 'alone')
         row = Row('alone, instructions of a call', [call_instructions(from_rust), from_c])
         print_table('The package for Rust', 'from Rust', 'from C', [row])
+
+
+def c_costs(folder, _):
+    if not has_valgrind():
+        skip('costs: valgrind is not there')
+        return
+    os.makedirs(folder, exist_ok=True)
+    program = linked(C_COSTS, 'c_costs', LIBRARY, folder)
+    rows = []
+    for kind in C_KINDS:
+        few, many = [instructions([program, kind, str(calls)], os.devnull) for calls in C_MARGIN]
+        rows.append(Row(kind, [(many - few) / (C_MARGIN[1] - C_MARGIN[0])]))
+    single = rows[0].values[0]
+    print_lines('Instructions of a call of the C library', [['', 'libchanhub', 'To single']] + [
+        [row.name, shown(row.values[0]), '%.2f' % (row.values[0] / single)] for row in rows])
 
 
 # each part, and what has to be built for it
@@ -354,6 +375,7 @@ PARTS = {
     'live': (live, [TRIALS]),
     'scenarios': (scenarios, [TRIALS, CHANHUB]),
     'capi': (capi, [LIBRARY]),
+    'costs': (c_costs, [LIBRARY]),
 }
 
 

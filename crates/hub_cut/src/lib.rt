@@ -1,8 +1,10 @@
-//! Cuts: a hub hands out its journal and goes on from a checkpoint, and whatever follows is answered as before.
+//! Cuts: a hub hands out its journal and goes on from a checkpoint, and whatever follows is answered as before. And
+//! chains, which check that such chapters are one history: each is the text of a legal journal, and each but the first
+//! begins with the checkpoint of the one before.
 //!
 //! A checkpoint is written from what a hub shows of its ports, its processes and its open calls, so a cut takes as
 //! long as the checkpoint is, however long the journal. Why nobody can tell is said in `hub_chapters`. A recorder cuts
-//! itself, so it never ends.
+//! itself, so it never ends. A chain holds one chapter at a time; of those before it keeps only the last checkpoint.
 #![tactic(auto)]
 
 mod beginnings;

@@ -1,9 +1,9 @@
-//! Replays a journal: from bytes that are read to the events of its steps, which are written, or
-//! compared with given bytes.
+//! Replays a journal: from bytes that are read to the events of its steps, which are written, or compared with given
+//! bytes. And converses over one: reads its lines as they come, and answers the whole lines of each read.
 //!
-//! Bytes come and go through devices, which may fail at any call. What a device does to its bytes is said
-//! in `specs/Devices`, what a whole replay does to both ends in `specs/Replay`, and what a comparison says
-//! in `specs/Verify`.
+//! Bytes come and go through devices, which may fail at any call. What a device does to its bytes is said in
+//! `specs/Devices` and `specs/Talks`, what a whole replay does to both ends in `specs/Replay`, what a comparison says in
+//! `specs/Verify`, and what a conversation comes to in `specs/Serve`.
 #![tactic(auto)]
 
 mod args;

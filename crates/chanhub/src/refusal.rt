@@ -5,11 +5,11 @@ ghost use Rattle.hub_replay.specs.declared.fault.ReplayFault.TheVariants as repl
 ghost use Rattle.chanhub.specs.declared.refusal.Refusal.TheVariants as refusal;
 ghost use Rattle.chanhub.specs.Refusals.{of_arguments, of_source, of_scenario, of_run};
 
+use crate::words::ArgumentsFault;
 use hub_base::NoMemory;
 use hub_replay::{ReplayFault, SourceFault, WriteFailed};
 use hub_runner::RunFault;
 use hub_scenario::ScenarioFault;
-use crate::words::ArgumentsFault;
 
 /// Why the program did not do what it was asked for.
 #[derive(Clone, Copy, Debug, PartialEq, Eq)]

@@ -6,12 +6,11 @@ ghost use Rattle.hub_base.specs.declared.head.Head.{Head};
 ghost use Rattle.hub_chapters.specs.Chapters.{Chapters};
 ghost use Rattle.hub_chapters.specs.Chapters.Chapters.{First, Cut};
 
-use crate::ChainFault;
 use crate::beginnings::{begins_with, has_head};
 use crate::replays::hub_of;
+use crate::{ChainFault, checkpoint_of};
 use hub_base::Journal;
 use hub_core::{ShortJournal, read_short_journal};
-use crate::checkpoint_of;
 use std::alloc::Global;
 use std::marker::Model;
 

@@ -2,8 +2,7 @@
 
 use crate::compare::same;
 use crate::live::stories::Runtime;
-use hub_runner::{PortReport, Report};
-use hub_runner::{Gate, run_scenario};
+use hub_runner::{Gate, PortReport, Report, run_scenario};
 use hub_scenario::{Scenario, read_scenario};
 use std::alloc::Global;
 use std::process::Abort;

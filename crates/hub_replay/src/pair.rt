@@ -6,8 +6,7 @@
 ghost use Rattle.std.specs.Prelude.{ℕ, List, Option, None};
 ghost use Rattle.std.specs.Io.KnownBytes.{Consumes, Appends, IsAtEnd};
 
-use crate::Talk;
-use crate::{Sink, Source};
+use crate::{Sink, Source, Talk};
 use std::io;
 use std::marker::{Brand, PhantomData};
 

@@ -8,10 +8,9 @@ ghost use Rattle.hub_replay.specs.Conversing.{Conversing};
 ghost use Rattle.hub_replay.specs.Serve.{HasConversed, HasNamed, HasBegun, HasEnded, HasStopped, HasHeardAtMost};
 ghost use Rattle.hub_replay.specs.Talks.{Stays, Grows, HasAnswered, IsAnswer};
 
-use crate::Talk;
 use crate::conversation::Conversation;
+use crate::{CHUNK, ReplayFault, Talk, WriteFailed};
 use hub_base::MOST_BYTES;
-use crate::{CHUNK, ReplayFault, WriteFailed};
 use hub_text::{EventText, one_reading};
 use std::alloc::Global;
 

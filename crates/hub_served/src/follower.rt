@@ -18,8 +18,8 @@ ghost use Rattle.hub_served.specs.declared.not_made.NotMade.TheVariants.{Diverge
 use crate::NotMade;
 use crate::given::Given;
 use hub_base::{CaseSlice, Entry, EntryRef, Event, NoMemory, Pid, Step, StepRef};
-use hub_cut::{ChainFault, is_same_entry, read_hub};
 use hub_core::{CaseRoom, Hub, ShortEntries, ShortHub};
+use hub_cut::{ChainFault, is_same_entry, read_hub};
 use hub_live::under_lock::Locked;
 use hub_story::clock_of;
 use std::alloc::Global;

@@ -8,9 +8,8 @@ ghost use Rattle.hub_session.specs.Tells.{follow_refused};
 use crate::session::Session;
 use crate::structs::{FollowC, MALFORMED, NOT_ADMITTED, REFUSED_MEMORY};
 use hub_base::Edition;
-use hub_cut::ChainFault;
 use hub_core::OpenFault;
-use hub_cut::MOST_KEEP;
+use hub_cut::{ChainFault, MOST_KEEP};
 use hub_served::AfterDivergence;
 use std::alloc::Global;
 

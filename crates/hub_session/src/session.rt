@@ -10,11 +10,10 @@ ghost use Rattle.hub_session.specs.Hubs.{head_in};
 ghost use Rattle.hub_session.specs.Opens.{IsAnew, IsOpened, IsOpenedEndless, IsOpenedFollowing};
 
 use hub_base::{Edition, Head};
-use hub_cut::ChainFault;
 use hub_core::{Hub, OpenFault, ShortHub};
-use hub_served::EndlessHub;
-use hub_served::{AfterDivergence, Follower};
+use hub_cut::ChainFault;
 use hub_live::under_lock::Locked;
+use hub_served::{AfterDivergence, EndlessHub, Follower};
 use std::alloc::Global;
 
 /// A hub as it was opened, and the answers that wait.

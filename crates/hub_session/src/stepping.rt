@@ -24,8 +24,8 @@ use hub_base::{
     CASE_PLACES, Case, CaseSlice, Entry, EntryRef, Event, Fault, Pid, Port, Step, StepRef, Value,
 };
 use hub_core::ShortHub;
-use hub_served::EndlessHub;
 use hub_live::under_lock::Locked;
+use hub_served::EndlessHub;
 
 /// How many places there are for a call of few cases.
 const FEW_CASES: usize = 4;

@@ -17,8 +17,8 @@ use crate::session::{Opened, Session};
 use crate::structs::{NO_MEMORY, NO_PIECE, NO_ROOM, PieceC, WRITTEN};
 use hub_base::{Edition, Entry, EntryRef, Head, MOST_PROCS, NoMemory};
 use hub_core::{CaseRoom, ShortHub};
-use hub_served::Follower;
 use hub_live::under_lock::Locked;
+use hub_served::Follower;
 use hub_text::{write_entry, write_head};
 
 /// The most pieces that are read at once, behind the first.

@@ -8,8 +8,7 @@ ghost use Rattle.hub_replay.specs.Serve.{HasConversed};
 ghost use Rattle.chanhub_tool.specs.Promises.{HasEnded};
 
 use clap::Command;
-use hub_replay::{Counted, Sink, tell_fault};
-use hub_replay::{Pair, Talk, converse};
+use hub_replay::{Counted, Pair, Sink, Talk, converse, tell_fault};
 use std::alloc::Global;
 use std::marker::{Brand, PhantomData};
 

@@ -5,8 +5,8 @@ use crate::compare::same;
 use hub_base::{
     Case, Cases, CasesExt, Entry, Event, Fault, Kind, Pid, Port, Step, TextFault, Value, cases_from,
 };
-use hub_cut::ChainFault;
 use hub_core::CaseRoom;
+use hub_cut::ChainFault;
 use hub_served::{AfterDivergence, Follower, NotMade};
 use std::alloc::Global;
 use std::process::Abort;

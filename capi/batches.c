@@ -40,6 +40,13 @@ static void gather(struct batch *b) {
     b->ready = 0;
 }
 
+/* Does at once what gather leaves to the end, before a step that may let go of the lock: then nobody may still wait for what is made. */
+static void let_know(struct batch *b) {
+    show_port(b->hub, b->port);
+    if (b->ended) wake(b->hub, note_step(b->hub, &(struct told){ .ended = b->ended }));
+    b->ended = 0;
+}
+
 /* Looks up how many values the buffer holds, or has room for. Returns whether there are any. */
 static bool look_up(struct batch *b) {
     chanhub_counts counts = hub_c_look(&b->hub->hub, b->port);
@@ -82,6 +89,7 @@ static inline bool is_quiet(struct batch *b) {
 static void step_until(struct batch *b, const chanhub_value *value) {
     chanhub_case one = { .sends = b->sends, .port = b->port };
     if (value) one.value = *value;
+    let_know(b);
     call_until(b->hub, b->pid, &one, 1, 0, b->deadline, &b->t);
     b->ready = 0;
 }
@@ -101,12 +109,14 @@ static inline bool is_again(struct batch *b) {
     return true;
 }
 
-/* Makes the step of a value again while it is to be, and waits for its answer if it parked. Returns whether it did. */
+/* Makes the step of a value again while it is to be, and waits for its answer if it parked. Returns whether it did. A deadline that was made
+ * to pass meanwhile has passed for the values that are left. */
 static bool see_to_answer(struct batch *b, const chanhub_value *value) {
     while (is_again(b)) step(b, value);
     if (b->t.it.what != CHANHUB_WAITING) return false;
     gather(b);
     b->t = (struct told){ .it = await_answer(b->hub, b->pid, &b->t, b->nanoseconds) };
+    if (b->deadline != FOR_EVER) b->deadline = b->hub->places[b->pid].deadline;
     return true;
 }
 

@@ -1348,7 +1348,9 @@ class Seat:
             calls.wait(pid, _SLICE if get_ident() == _main else _FOR_EVER)
             told = calls.told(pid)
             if told[0] == WAITING and told[1]:  # it has timed out, but there is no memory to end it
-                raise Fault(told[1])
+                error = Fault(told[1])
+                error.sent = told[4]
+                raise error
             hub._attend()
         if told[0] in _ENDED or told[0] == FAULT:
             error = hub._error(pid, *told[:4])

@@ -10,7 +10,9 @@
 #include "runs.h"
 
 #include <pthread.h>
+#include <sched.h>
 #include <stdlib.h>
+#include <time.h>
 
 enum { SECONDS = 300, MOST = 64, LONGEST = 1200 };
 
@@ -508,6 +510,74 @@ static void without_end(const char *folder) {
     is("chapters", files.next >= 2 * SENDERS * each / 16, 1);
 }
 
+/* ---- What is told while a chapter is handed out. ---- */
+
+static chanhub_counts seen;
+
+static void look_slowly(void *pointer, const char *text, size_t length) {
+    (void)pointer, (void)text, (void)length;
+    nanosleep(&(struct timespec){ .tv_nsec = 10 * (long)MILLISECOND }, NULL);
+    seen = chanhub_look(hub, 1);
+}
+
+/* Picks up a value, and calls with a deadline at once. */
+static void *call_anew(void *at) {
+    chanhub_told *told = at;
+    told[0] = chanhub_resume(hub, 1, NEVER);
+    told[1] = chanhub_recv_until(hub, 1, 2, chanhub_in(MILLISECOND));
+    return NULL;
+}
+
+/* Three values to a port with room for one and a receiver, behind so many other steps. Returns whether a chapter was handed out meanwhile. */
+static bool sends_behind(int steps) {
+    pthread_t thread;
+    chanhub_told told[2];
+    chanhub_options options = { .procs = 3, .keep = 1, .chapters = look_slowly, .clock = true };
+    if (chanhub_open_with(&hub, &options)) exit(2);
+    chanhub_make(hub, 0, 1), chanhub_make(hub, 0, 0);
+    is("waits", begin_recv(1, 1).what, CHANHUB_WAITING);
+    for (int i = 0; i < steps; i++) is("tried", chanhub_try_recv(hub, 2, 2).what, CHANHUB_DEFAULT);
+    seen = (chanhub_counts){ 0 };
+    if (pthread_create(&thread, NULL, call_anew, told)) exit(2);
+    is_told("two", send_until(0, 1, 1, 3, chanhub_in(20 * MILLISECOND)), CHANHUB_TIMED_OUT, 2);
+    pthread_join(thread, NULL);
+    is("the first", told[0].what, CHANHUB_GOT);
+    is("its next call", told[1].what, CHANHUB_TIMED_OUT);
+    bool is_handed_out = seen.cap;
+    if (is_handed_out) is("looks show what was sent", seen.sent > 0 && seen.received > 0, 1);
+    chanhub_free(hub);
+    return is_handed_out;
+}
+
+static void told_meanwhile(void) {
+    int handed_out = 0;
+    for (int steps = 0; steps < 30; steps++) handed_out += sends_behind(steps);
+    is("some were handed out", handed_out > 5, 1);
+}
+
+/* ---- A deadline that is made to pass. ---- */
+
+static void *send_two(void *told) {
+    *(chanhub_told *)told = send_until(0, 1, 1, 2, FAR_OFF);
+    return NULL;
+}
+
+/* The value that waits may be received before its thread runs. The other has no more time either. */
+static void expired(void) {
+    for (int run = 0; run < 50; run++) {
+        pthread_t thread;
+        chanhub_told told;
+        open_with_clock(2, 1000);
+        chanhub_make(hub, 0, 0);
+        if (pthread_create(&thread, NULL, send_two, &told)) exit(2);
+        while (!chanhub_expire(hub, 0)) sched_yield();
+        bool is_got = chanhub_recv_until(hub, 1, 1, chanhub_in(MILLISECOND)).what == CHANHUB_GOT;
+        pthread_join(thread, NULL);
+        is_told("timed out", told, CHANHUB_TIMED_OUT, is_got);
+        chanhub_free(hub);
+    }
+}
+
 /* ---- Random runs that are recorded and followed. ---- */
 
 enum { PROCS = 5, CALLS = 40, PORTS = 3, RUNS = 200, FEW = 6 };
@@ -615,11 +685,11 @@ int main(int words, char **word) {
     if (strcmp(part, "alone") == 0) {
         steps(), bytes(), refusals(), ends(), others(), begun(), deadlines(), kept_steps(), followed();
     } else if (strcmp(part, "threads") == 0) {
-        waits_in_the_middle(), in_order();
+        waits_in_the_middle(), expired(), in_order();
     } else if (strcmp(part, "followed") == 0) {
         random_runs(words > 2 ? (uint32_t)atoi(word[2]) : RUNS);
     } else if (strcmp(part, "endless") == 0 && words == 3) {
-        without_end(word[2]);
+        told_meanwhile(), without_end(word[2]);
     }
     return tally(part);
 }

@@ -67,8 +67,9 @@
 //
 // # Threads
 //
-// Each call goes through cgo; [Seat.SendAll] and [Seat.RecvUpTo] do so once for many values. A goroutine whose call waits holds an operating system thread, so the calls of a hub may hold up to
-// 64 threads. Other goroutines keep running.
+// Each call goes through cgo; [Seat.SendAll] and [Seat.RecvUpTo] do so once for many values. A goroutine whose call
+// waits holds an operating system thread, so the calls of a hub may hold up to 64 threads. Other goroutines keep
+// running.
 //
 // # The library
 //

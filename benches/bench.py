@@ -48,6 +48,8 @@ SETS = 3
 JOURNALS = ('hand_overs', 'bursts', 'selects', 'bytes')
 GROWTH = ('open_calls', 'dead_entries', 'stalls', 'one_busy', 'worst_close', 'faults', 'idle_workers', 'renewed_workers', 'cancels',
           'many_cancels', 'lives')
+# those of the third edition, which the other program need not read
+THIRD = ('lives',)
 WORKLOADS = ('alone', 'ping_pong', 'one_to_one', 'four_to_four', 'select_over_four', 'looks_1', 'looks_2', 'looks_4')
 # of c_times.c: what is timed, and of what one thread does also the instructions of a call
 C_WORKLOADS = ('hand_overs', 'buffered', 'one_to_one', 'four_to_four', 'select_over_four', 'alone', 'alone_select', 'look', 'journal')
@@ -206,7 +208,7 @@ def growth(folder, other):
     make_growth(folder)
     rows = []
     for name in GROWTH:
-        jobs = [Job(words, os.path.join(folder, name)) for words in programs]
+        jobs = [Job(words, os.path.join(folder, name)) for words in programs[:1 if name in THIRD else None]]
         if len(set(map(digest, jobs))) != 1:
             sys.exit('bench: the programs write different events of ' + name)
         rows.append(Row(name, [instructions(job.words, job.input) / 1000000 for job in jobs]))

@@ -17,14 +17,19 @@ ROOT = os.path.join(os.path.dirname(os.path.abspath(__file__)), '..', '..')
 LINES = 100000
 SKIPPED = 77
 
-# Date: 2026-11-29; `bytes`: 2026-11-30. Toolchain (`rt version`): `rattle-kit-13f logic dac8208d650f15bf`. Counted by valgrind 3.19.0.
+# Date: 2026-12-01. Toolchain (`rt version`): `rattle-kit-13f logic dac8208d650f15bf`. Counted by valgrind 3.19.0.
 WRITTEN = {
-    'hand_overs': 37_879_791,
-    'bursts': 24_502_916,
-    'selects': 112_268_245,
-    'bytes': 68_522_292,
-    'open_calls': 76_917_714,
-    'worst_close': 33_744_028,
+    'hand_overs': 38_315_555,
+    'bursts': 25_350_740,
+    'selects': 111_824_656,
+    'bytes': 68_393_944,
+    'open_calls': 77_404_044,
+    'worst_close': 33_318_303,
+    'idle_workers': 15_390_469,
+    'renewed_workers': 15_109_749,
+    'cancels': 13_408_748,
+    'many_cancels': 67_166_794,
+    'lives': 10_640_099,
 }
 PERCENT = 5
 

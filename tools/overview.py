@@ -13,6 +13,7 @@ import sys
 
 sys.dont_write_bytecode = True
 import model
+import walk
 
 BLOCK = 64  # steps
 COLUMNS = 500
@@ -25,23 +26,6 @@ text { font: 11px system-ui, sans-serif; fill: #222; } .name { text-anchor: end;
 svg { background: #16181c; } text { fill: #e8e8e8; } .waited { fill: #56b4e9; } .asked { fill: #a8a8a8; } .held { fill: #2fc79a; }
 .stall { stroke: #ff8533; } .line { stroke: #6f747c; } }
 </style>"""
-
-
-class Step:
-    """A step that was asked, while something later may tell of it."""
-
-    __slots__ = ("place", "pid", "word", "asked", "cases")
-
-    def __init__(self, place, line):
-        pid, word, *more = line.split(" ")
-        self.place, self.pid = place, int(pid)
-        self.word, self.asked = model.step([word, *more])
-        self.cases = self.asked[0] if self.word == "call" else ()
-
-
-class Port:
-    def __init__(self, room):
-        self.room, self.count, self.most = room, 0, 0
 
 
 class Sketch:
@@ -60,75 +44,47 @@ class Overview:
     """What a journal tells, block by block, and what it tells of the whole. What is kept besides are the calls that wait."""
 
     def __init__(self, lines):
-        lines = iter(lines)
-        head, procs = next(lines), next(lines)
-        self.procs = int(procs.split()[1])
-        self.hub = model.Hub(int(head.split()[2]), self.procs)
-        self.ports, self.waiting = [], {}  # the calls that wait, by process
+        self.walk = walk.Walk(lines)
         self.sketch, self.sketches, self.stalls = Sketch(0, ()), [], []
         self.count, self.longest = 0, []  # a heap
         self.asked, self.waited = collections.Counter(), collections.Counter()
-        for line in lines:
-            self.take(line.rstrip("\n"))
+        for entry, ended in self.walk:
+            self.take(entry, ended)
+        self.procs, self.ports = self.walk.procs, self.walk.ports[1:]
         if self.count % BLOCK:
             self.end_block()
-        for step in self.waiting.values():
-            self.add_wait(step, self.count - 1 - step.place)
+        for entry in self.walk.waiting.values():
+            self.add_wait(entry, self.count - 1 - entry.place)
 
-    def lane(self, step):
-        return min(step.pid, self.procs)
+    def lane(self, entry):
+        return min(entry.pid, self.walk.procs)
 
-    def take(self, line):
-        step = Step(self.count, line)
-        self.hub.step(step.pid, step.word, step.asked)
-        events, self.hub.events = self.hub.events, []
-        moved = set()
-        for number, event in enumerate(events):
-            pid, *words = event.split(" ")
-            asked = self.waiting.pop(int(pid)) if number else step
-            if words == ["parked"]:
-                self.waiting[asked.pid] = asked
-            else:
-                moved |= self.finish(asked, words)
-        for port in moved:
-            count = self.ports[port - 1].count
-            self.ports[port - 1].most = max(self.ports[port - 1].most, count)
-            self.sketch.most[port] = max(self.sketch.most.get(port, 0), count)
-        self.asked[self.lane(step)] += 1
-        self.sketch.asked[self.lane(step)] += 1
+    def take(self, entry, ended):
+        for other in ended:
+            if other is not entry:
+                self.sketch.add_wait(self.lane(other), other.place, entry.place)
+                self.add_wait(other, entry.place - other.place)
+        if any(other.end == "stalled" for other in ended):
+            self.stalls.append(entry.place)
+        for port in {other.move.port for other in ended if other.move}:
+            self.sketch.most[port] = max(self.sketch.most.get(port, 0), self.walk.ports[port].count)
+        self.asked[self.lane(entry)] += 1
+        self.sketch.asked[self.lane(entry)] += 1
         self.count += 1
         if self.count % BLOCK == 0:
             self.end_block()
 
-    def finish(self, step, words):
-        """Takes in that a step ended by the present one. The ports on which a value moved."""
-        if step.place < self.count:
-            self.sketch.add_wait(self.lane(step), step.place, self.count)
-            self.add_wait(step, self.count - step.place)
-        if words == ["stalled"] and self.stalls[-1:] != [self.count]:
-            self.stalls.append(self.count)
-        if words[0] == "made":
-            self.ports.append(Port(step.asked))
-        if words == ["done"] and step.word == "reopen":
-            port, room = step.asked
-            self.ports[port - 1].room = max(self.ports[port - 1].room, room)
-        if words[0] != "case" or words[2] not in ("sent", "got"):
-            return set()
-        port = step.cases[int(words[1])][1]
-        self.ports[port - 1].count += 1 if words[2] == "sent" else -1
-        return {port}
-
-    def add_wait(self, step, steps):
+    def add_wait(self, entry, steps):
         """Takes in that a call waited so many steps."""
-        self.waited[step.pid] += steps
-        wait = (steps, -step.place)
+        self.waited[entry.pid] += steps
+        wait = (steps, -entry.place)
         (heapq.heappush if len(self.longest) < LONGEST else heapq.heappushpop)(self.longest, wait)
 
     def end_block(self):
-        for step in self.waiting.values():
-            self.sketch.add_wait(step.pid, step.place, self.count)
+        for entry in self.walk.waiting.values():
+            self.sketch.add_wait(entry.pid, entry.place, self.count)
         self.sketches.append(self.sketch)
-        self.sketch = Sketch(self.count, self.ports)
+        self.sketch = Sketch(self.count, self.walk.ports[1:])
 
 
 def columns(data):

@@ -384,9 +384,11 @@ class Tests(Count):
                 self.start, self.stop, self.has = steps.start, steps.stop, steps.__contains__
             def __contains__(self, place):
                 return self.has(place)
-        data = page.Data(['chanhub journal 1', 'procs 1', '0 make 1', '0 send 1 5'], lambda text: None)
-        data.window = Window(data.window)
-        data.line(2, '0 recv 1')
+        lines = ['chanhub journal 1', 'procs 1', '0 make 1', '0 send 1 5', '0 recv 1']
+        data = page.Data(lines, lambda text: None)
+        data.window, data.told = Window(data.window), set()
+        for entry, ended in page.walk.Walk(lines):
+            data.line(entry, ended)
         self.test('page.py does not go through its window', {1, 2} <= data.told)
 
     def reports(self):

@@ -15,6 +15,7 @@ ROOT = pathlib.Path(__file__).resolve().parents[2]
 sys.path.insert(0, str(ROOT / "tools"))
 import model
 import story_model
+import walk
 
 VIEWER = ROOT / "viewer"
 BEFORE = ["head.html", "style.css", "body.html"]
@@ -24,31 +25,6 @@ AFTER = ["scripts.html", *SCRIPTS, "end.html"]
 LETTERS = {"make": "m", "send": "s", "recv": "r", "select": "?", "close": "c", "reopen": "o", "cancel": "x", "start": "g", "exit": "e"}
 BLOCK = 64  # steps
 ENDS = {"sent": "s", "got": "g", "drained": "d", "closed": "c", "default": "D", "done": "k", "stalled": "S", "cancelled": "x"}
-
-
-class Step:
-    """A step that was asked, while something later may tell of it; and by which step it ended."""
-
-    __slots__ = ("place", "pid", "cases", "by")
-
-    def __init__(self, place, pid, cases):
-        self.place, self.pid, self.cases, self.by = place, pid, cases, None
-
-
-class Port:
-    """How many values it holds; who moved values last, and who received any since it was opened last; and of values that one end is told of only, the steps of the
-    sends, or of receives."""
-
-    def __init__(self):
-        self.count, self.sender, self.receiver, self.receivers = 0, None, None, set()
-        self.not_received, self.not_sent = collections.deque(), collections.deque()
-
-
-class Move:
-    """An item on a value that a step sent or received; of one that was received, who sent it may be told later by the same step."""
-
-    def __init__(self, words, port, step):
-        self.words, self.port, self.step, self.sender = words, port, step, None
 
 
 def told(letter, number):
@@ -83,133 +59,83 @@ class Data:
     and the window has all steps of their blocks, and of those between."""
 
     def __init__(self, lines, write, asked=None):
-        head, procs, *lines = (line.rstrip("\n") for line in lines)
-        first, last = asked or (1, len(lines))
-        clock = story_model.clock_of(int(head.split()[2]), int(procs.split()[1]), lines)
-        self.procs, self.window = int(procs.split()[1]), range((first - 1) // BLOCK * BLOCK, min(len(lines), -(-last // BLOCK) * BLOCK))
-        self.hub = model.Hub(int(head.split()[2]), self.procs)
-        self.ports, self.waiting, self.exited = collections.defaultdict(Port), {}, set()  # waiting by process, in the order of arrival
+        count = len(lines) - 2
+        first, last = asked or (1, count)
+        clock = walk.clock_of(lines)
+        self.walk = walk.Walk(lines)
+        self.window = range((first - 1) // BLOCK * BLOCK, min(count, -(-last // BLOCK) * BLOCK))
         self.sketch, self.told = Sketch(0), set(self.window)
         texts, sketches = [], []
-        for place, line in enumerate(lines):
-            if place == self.window.start:
-                self.told |= {step.place for step in self.waiting.values()}
-            texts.append(self.line(place, line))
-            if (place + 1) % BLOCK == 0 or place + 1 == len(lines):
-                sketches.append(self.end_block(place + 1))
-        write(f"{head}\n{procs}\nsteps {first} {last}" + ("\n" if clock == story_model.NOBODY else f" clock {clock}\n"))
+        for entry, ended in self.walk:
+            texts.append(self.line(entry, ended))
+            if len(texts) == self.window.start:
+                self.told |= {other.place for other in self.walk.waiting.values()}
+            if len(texts) % BLOCK == 0 or len(texts) == count:
+                sketches.append(self.end_block(len(texts)))
+        write("\n".join([*lines[:2], f"steps {first} {last}"]) + ("\n" if clock == walk.NOBODY else f" clock {clock}\n"))
         for place, text in enumerate(texts):
             write(text if place in self.told else "\n")
-            if (place + 1) % BLOCK == 0 or place + 1 == len(texts):
+            if (place + 1) % BLOCK == 0 or place + 1 == count:
                 write(sketches[place // BLOCK])
 
-    def lane(self, step):
+    def lane(self, entry):
         """One stands for all processes that there are not."""
-        return min(step.pid, self.procs)
+        return min(entry.pid, self.walk.procs)
 
     def end_block(self, end):
-        for step in self.waiting.values():
-            self.sketch.wait(step.pid, step.place, end)
-        text = self.sketch.text(end, self.procs + 1, {step.pid: step.place for step in self.waiting.values()})
+        since = {pid: entry.place for pid, entry in self.walk.waiting.items()}
+        for pid, place in since.items():
+            self.sketch.wait(pid, place, end)
+        text = self.sketch.text(end, self.walk.procs + 1, since)
         self.sketch = Sketch(end)
         return text
 
-    def line(self, place, line):
-        pid, word, *more = line.split(" ")
-        entry = pid + LETTERS[word] + (":" if word in ("send", "reopen") else "").join("!" if part == "default" else part for part in more)
-        word, asked = model.step([word, *more])
-        own = Step(place, int(pid), asked[0] if word == "call" else ())
-        self.sketch.asked[self.lane(own)] += 1
-        self.hub.step(own.pid, word, asked)
-        events, self.hub.events = self.hub.events, []
-        items, stalled = [], []
+    def line(self, entry, ended):
+        pid, word, *more = entry.line.split(" ")
+        asked = pid + LETTERS[word] + (":" if word in ("send", "reopen") else "").join("!" if part == "default" else part for part in more)
+        self.sketch.asked[self.lane(entry)] += 1
         if word in ("make", "reopen", "start", "exit"):
-            self.told.add(place)
-        if events[0].endswith(" done"):
-            self.turn(own.pid, word, asked)
-        for number, event in enumerate(events):
-            pid, *words = event.split(" ")
-            step = self.waiting.pop(int(pid)) if number else own
-            if words == ["parked"]:
-                self.waiting[own.pid] = own
-            else:
-                step.by = place
-                items.append(self.end(place, step, words))
-                self.sketch.wait(self.lane(step), step.place, place)
-                if words == ["stalled"] or place >= self.window.start and step.place < self.window.stop:
-                    self.told.add(place)
-                self.sketch.troubles[self.lane(step)] += words[0] in ("stalled", "fault") or words[-1] == "closed"
-            if words == ["stalled"]:
-                stalled.append(step)
-        for number in {item.port for item in items if isinstance(item, Move)}:
-            self.sketch.most[number] = max(self.sketch.most[number], self.ports[number].count)
-        return entry + "".join(self.text(place, item) for item in items) + "".join(self.stalls(place, stalled)) + "\n"
+            self.told.add(entry.place)
+        for other in ended:
+            self.sketch.wait(self.lane(other), other.place, entry.place)
+            self.sketch.troubles[self.lane(other)] += other.is_trouble
+            if other.end == "stalled" or entry.place >= self.window.start and other.place < self.window.stop:
+                self.told.add(entry.place)
+            if other.move:
+                (self.sketch.sent if other.move.side == "s" else self.sketch.got)[other.move.port] += 1
+                self.tell_way(other)
+        for other in filter(lambda other: other.move, ended):
+            port = other.move.port
+            self.sketch.most[port] = max(self.sketch.most[port], self.walk.ports[port].count)
+        stalled = [other for other in ended if other.end == "stalled"]
+        return asked + "".join(map(self.end, ended)) + "".join(self.stalls(entry.place, stalled)) + "\n"
 
-    def turn(self, pid, word, asked):
-        """A step was done by which a process has left, or is there again, or by which a port is open again and nobody has received there."""
-        if word == "exit":
-            self.exited.add(pid)
-        elif word == "start":
-            self.exited.remove(asked)
-        elif word == "reopen":
-            self.ports[asked[0]].receivers = set()
-
-    def end(self, place, step, words):
+    def end(self, entry):
         """How a step ended, and the value that moved so."""
-        back = place - step.place
-        if words[0] == "made":
-            return f";{back}m{words[1]}"
-        if words[0] == "fault":
-            return f";{back}f{words[1]}"
-        if words[0] != "case":
-            return f";{back}{ENDS[words[0]]}"
-        text = f";{back}{ENDS[words[2]]}{words[1]}"
-        return self.move(text, step, step.cases[int(words[1])]) if words[2] in ("sent", "got") else text
+        word, *words = entry.end.split(" ")
+        back = f";{entry.by - entry.place}"
+        if word in ("made", "fault"):
+            return f"{back}{word[0]}{words[0]}"
+        if word != "case":
+            return back + ENDS[word]
+        text = f"{back}{ENDS[words[1]]}{words[0]}"
+        if not entry.move:
+            return text
+        sender = f"@{entry.by - entry.partner.place}" if entry.move.side == "r" else ""
+        return f"{text}{sender};{entry.move.port}:{self.walk.ports[entry.move.port].count}"
 
-    def move(self, text, step, case):
-        """The first value that was sent is the first that is received; of both ends either may be told first."""
-        port = self.ports[case[1]]
-        item = Move(text, case[1], step)
-        if case[0] == "s":
-            port.count, port.sender = port.count + 1, step
-            self.sketch.sent[case[1]] += 1
-            if port.not_sent:
-                self.passed(step, port.not_sent.popleft())
-            else:
-                port.not_received.append(step)
-        else:
-            port.count, port.receiver = port.count - 1, step
-            port.receivers.add(step.pid)
-            self.sketch.got[case[1]] += 1
-            if port.not_received:
-                self.passed(port.not_received.popleft(), item)
-            else:
-                port.not_sent.append(item)
-        return item
-
-    def passed(self, sender, item):
+    def tell_way(self, entry):
         """A step sent what another one received: if one of them is in the window, the other one is told, and by which steps they ended."""
-        item.sender, ends = sender.place, {sender.place, item.step.place}
-        if any(place in self.window for place in ends):
-            self.told |= ends | {sender.by, item.step.by}
-
-    def text(self, place, item):
-        if isinstance(item, str):
-            return item
-        return item.words + ("" if item.sender is None else f"@{place - item.sender}") + f";{item.port}:{self.ports[item.port].count}"
+        both = [entry, entry.partner] if entry.partner else []
+        if any(one.place in self.window for one in both):
+            self.told |= {place for one in both for place in (one.place, one.by)}
 
     def stalls(self, place, stalled):
-        """Who was there last, of a send whether all who received there have exited, and for whom each of these calls perhaps waits, as
-        docs/EXPLAIN.md says it."""
-        offers = {step.pid: {case[:2] for case in step.cases} for step in stalled}
-        for step in stalled:
-            for side, number in (case[:2] for case in step.cases):
-                movers = self.ports[number].sender, self.ports[number].receiver
-                yield f";{number}L" + ",".join("" if mover is None else str(place - mover.place) for mover in movers)
-                yield "!" if side == "s" and set() < self.ports[number].receivers <= self.exited else ""
-                others = [mover.pid for mover in (movers if side == "r" else reversed(movers)) if mover]
-                others = [pid for pid in others if pid != step.pid and pid in offers and (side, number) not in offers[pid]]
-                yield f";{step.pid}>{others[0]}" if others else ""
+        """Who was there last, of a send whether all who received there have exited, and for whom each of these calls perhaps waits."""
+        for wait in self.walk.waits(stalled):
+            movers = ("" if mover is None else str(place - mover.place) for mover in (wait.sender, wait.receiver))
+            yield f";{wait.port}L{','.join(movers)}" + ("!" if wait.is_left else "")
+            yield "" if wait.whom is None else f";{wait.entry.pid}>{wait.whom}"
 
 
 def text_of(name):
@@ -221,7 +147,6 @@ def joined(names):
 
 
 def write_page(lines, write, window=None):
-    lines = [line.rstrip("\n") for line in lines]
     write(joined(BEFORE))
     Data(lines, write, window)
     write(joined(BETWEEN))

@@ -12,9 +12,9 @@ import sys
 
 sys.dont_write_bytecode = True
 sys.path[:0] = [str(pathlib.Path(__file__).resolve().parents[2] / it) for it in ("tools", "tests/oracle")]
-import model
 import page
 import story_model
+import walk
 from refusals import Refuser
 from story import Program, begins_under_refusals, count, journals, refused, survives_refusals, table
 
@@ -23,99 +23,49 @@ MOST_STEPS = 200
 MOST_OF_PAGE = 1_000_000
 TOO_LONG = refused("too long for a diagram, which shows 200 steps at most")
 
-Told = collections.namedtuple("Told", "asked by pid words")
-# One value on its way: the places of both entries, those of the steps by which it moved, and both processes.
-Passage = collections.namedtuple("Passage", "port value sent received")
+# What a process was told, of which entry, by the entry at which place.
+Told = collections.namedtuple("Told", "entry by words")
 
 
-class Journal:
+class Journal(walk.Walk):
     """A journal, and all that it tells."""
 
     def __init__(self, text):
-        head, procs, *self.lines = text.splitlines()
-        self.procs = int(procs.split()[1])
-        self.pids = [int(line.split()[0]) for line in self.lines]
-        self.steps = [line.split(" ", 1)[1] for line in self.lines]
-        self.read = [model.step(line.split(" ")[1:]) for line in self.lines]
-        self.told = list(self.tell(model.Hub(int(head.split()[2]), self.procs)))
-        self.ports = [told.asked for told in self.told if told.words.startswith("made")]
+        super().__init__(text.splitlines())
+        self.entries, self.told = [], []
+        self.levels = collections.defaultdict(dict)  # by port, how many values it holds after each step by which one moved
+        for entry, ended in self:
+            self.entries.append(entry)
+            self.told += [Told(entry, entry.place, "parked")] * entry.is_parked
+            self.told += [Told(other, entry.place, other.end) for other in ended]
+            for port in (other.move.port for other in ended if other.move):
+                self.levels[port][entry.place] = self.ports[port].count
 
-    def tell(self, hub):
-        """The first event of a step answers it, and each other one ends the call that waits of its process."""
-        waiting = {}
-        for by, (pid, (word, asked)) in enumerate(zip(self.pids, self.read)):
-            hub.step(pid, word, asked)
-            events, hub.events = hub.events, []
-            for number, event in enumerate(events):
-                pid, words = event.split(" ", 1)
-                place = waiting.pop(int(pid)) if number else by
-                if words == "parked":
-                    waiting[int(pid)] = place
-                yield Told(place, by, int(pid), words)
 
-    def room(self, port):
-        """The most that it was made or opened again with."""
-        reopens = (self.read[told.asked] for told in self.told if told.words == "done")
-        again = [asked[1] for word, asked in reopens if word == "reopen" and asked[0] == port]
-        return max([int(self.steps[self.ports[port - 1]].split()[1]), *again])
-
-    def move(self, told):
-        """Side, port and value, where the event moved one."""
-        fields = told.words.split(" ")
-        if fields[0] != "case" or fields[2] not in ("sent", "got"):
-            return None
-        case = self.read[told.asked][1][0][int(fields[1])]
-        return case[0], case[1], fields[3] if fields[2] == "got" else str(case[2])
-
-    def passages(self):
-        """The k-th value that was sent on a port is the k-th that was received from it."""
-        sent, received = collections.defaultdict(list), collections.defaultdict(list)
-        for told in self.told:
-            moved = self.move(told)
-            if moved:
-                (sent if moved[0] == "s" else received)[moved[1]].append((told, moved[2]))
-        for port in sorted(sent):
-            for (first, value), (second, other) in zip(sent[port], received[port]):
-                assert value == other
-                yield Passage(port, value, first, second)
-
-    def levels(self, port):
-        """How many values the port holds after each step by which one moved."""
-        held, after = 0, {}
-        for told in self.told:
-            moved = self.move(told)
-            if moved and moved[1] == port:
-                held += 1 if moved[0] == "s" else -1
-                after[told.by] = held
-        return after
-
-    def ends(self):
-        """By its place, what each entry was told last; nothing of one that still waits."""
-        return {told.asked: told for told in self.told if told.words != "parked"}
+def asked_by(entry):
+    return entry.line.split(" ", 1)[1]
 
 
 def diagram(journal, first, last):
     """The sequence diagram of the steps from one to another, counted from 1."""
     lines = [f"participant P{pid}" for pid in range(journal.procs)]
-    lines += [f"participant port{port} as port {port}" for port in range(1, len(journal.ports) + 1) if journal.room(port)]
-    senders = {passage.received: passage.sent.pid for passage in journal.passages()}
+    lines += [f"participant port{number} as port {number}" for number, port in enumerate(journal.ports) if port.room]
     for told in journal.told:
-        if first - 1 <= told.by < last and told.pid < journal.procs:
-            lines += arrow_or_note(journal, told, senders)
+        if first - 1 <= told.by < last and told.entry.pid < journal.procs:
+            lines += arrow_or_note(journal, told)
     return "".join(["sequenceDiagram\n", *(f"    {line}\n" for line in lines)]).replace("#", "#35;").encode()
 
 
-def arrow_or_note(journal, told, senders):
-    moved = journal.move(told)
-    if not moved:
-        word, asked = journal.read[told.asked]
-        started = f",P{asked}" if word == "start" and told.words == "done" else ""
-        return [f"Note over P{told.pid}{started}: {told.by + 1}: {journal.steps[told.asked]}, {told.words}"]
-    side, port, value = moved
-    if journal.room(port):
-        ends = f"P{told.pid}-)port{port}" if side == "s" else f"port{port}-->>P{told.pid}"
-        return [f"{ends}: {told.by + 1}: {value}"]
-    return [f"P{senders[told]}->>P{told.pid}: {told.by + 1}: {value} on port {port}"] if side == "r" else []
+def arrow_or_note(journal, told):
+    entry, place = told.entry, told.by + 1
+    if not entry.move or told.words == "parked":
+        started = f",P{entry.asked}" if entry.word == "start" and told.words == "done" else ""
+        return [f"Note over P{entry.pid}{started}: {place}: {asked_by(entry)}, {told.words}"]
+    side, port, value = entry.move
+    if journal.ports[port].room:
+        ends = f"P{entry.pid}-)port{port}" if side == "s" else f"port{port}-->>P{entry.pid}"
+        return [f"{ends}: {place}: {value}"]
+    return [f"P{entry.partner.pid}->>P{entry.pid}: {place}: {value} on port {port}"] if side == "r" else []
 
 
 def events_of(journal):
@@ -124,27 +74,26 @@ def events_of(journal):
     yield {"ph": "M", "pid": 2, "name": "process_name", "args": {"name": "ports"}}
     for pid in range(journal.procs):
         yield {"ph": "M", "pid": 1, "tid": pid, "name": "thread_name", "args": {"name": f"P{pid}"}}
-    ends = journal.ends()
-    for place, pid in enumerate(journal.pids):
-        end = ends.get(place, Told(place, len(journal.pids) - 1, pid, "parked"))
-        kind = "wait" if end.by > place or end.words == "parked" else "step"
-        yield {"ph": "X", "pid": 1, "tid": pid, "ts": place + 1, "dur": end.by - place + 1, "cat": kind, "name": journal.steps[place], "args": {"told": end.words}}
-    for told in journal.told:
-        word, asked = journal.read[told.asked]
-        if told.words in ("stalled", "cancelled") or told.words == "done" and word in ("close", "reopen", "start"):
-            process = asked if word == "start" else told.pid
-            yield {"ph": "i", "s": "t", "pid": 1, "tid": process, "ts": told.by + 1, "name": f"{journal.steps[told.asked]}, {told.words}"}
+    for entry in journal.entries:
+        kind = "wait" if entry.end is None or entry.by > entry.place else "step"
+        yield {"ph": "X", "pid": 1, "tid": entry.pid, "ts": entry.place + 1, "dur": entry.waited(len(journal.entries)) + 1, "cat": kind,
+               "name": asked_by(entry), "args": {"told": entry.end or "parked"}}
+        if entry.end in ("stalled", "cancelled") or entry.end == "done" and entry.word in ("close", "reopen", "start"):
+            process = entry.asked if entry.word == "start" else entry.pid
+            yield {"ph": "i", "s": "t", "pid": 1, "tid": process, "ts": entry.by + 1, "name": f"{asked_by(entry)}, {entry.end}"}
     numbers = collections.Counter()
-    for passage in journal.passages():
-        port = f"port {passage.port}"
-        both = {"pid": 1, "cat": port, "name": port, "id": numbers[port]}
-        numbers[port] += 1
-        yield {"ph": "s", "tid": passage.sent.pid, "ts": passage.sent.by + 1.25, **both}
-        yield {"ph": "f", "bp": "e", "tid": passage.received.pid, "ts": passage.received.by + 1.75, **both}
-    for port in range(1, len(journal.ports) + 1):
-        if journal.room(port):
-            for place, held in journal.levels(port).items():
-                yield {"ph": "C", "pid": 2, "ts": place + 1, "name": f"port {port}", "args": {"values": held}}
+    for entry in (told.entry for told in journal.told if told.words.endswith(" sent")):
+        if entry.partner:
+            assert entry.move.value == entry.partner.move.value
+            port = f"port {entry.move.port}"
+            both = {"pid": 1, "cat": port, "name": port, "id": numbers[port]}
+            numbers[port] += 1
+            yield {"ph": "s", "tid": entry.pid, "ts": entry.by + 1.25, **both}
+            yield {"ph": "f", "bp": "e", "tid": entry.partner.pid, "ts": entry.partner.by + 1.75, **both}
+    for number, after in journal.levels.items():
+        if journal.ports[number].room:
+            for place, held in after.items():
+                yield {"ph": "C", "pid": 2, "ts": place + 1, "name": f"port {number}", "args": {"values": held}}
 
 
 def in_any_order(events):
@@ -265,7 +214,7 @@ def page_of(data, journal):
 def diagrams(program, work):
     for name, text, by_windows in journals(work):
         journal = Journal(text)
-        steps = len(journal.lines)
+        steps = len(journal.entries)
         status, written, errors = program.run(["mermaid"], text.encode())
         if steps > MOST_STEPS:
             yield f"{name}: too long", (status, written, errors) == TOO_LONG

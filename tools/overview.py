@@ -66,7 +66,7 @@ class Overview:
                 self.add_wait(other, entry.place - other.place)
         if any(other.end == "stalled" for other in ended):
             self.stalls.append(entry.place)
-        for port in {other.move.port for other in ended if other.move}:
+        for port in walk.ports_of(ended):
             self.sketch.most[port] = max(self.sketch.most.get(port, 0), self.walk.ports[port].count)
         self.asked[self.lane(entry)] += 1
         self.sketch.asked[self.lane(entry)] += 1

@@ -78,6 +78,11 @@ class Port:
             self.lone.append(entry)
 
 
+def ports_of(entries):
+    """The ports on which these moved values, by number."""
+    return {entry.move.port for entry in entries if entry.move}
+
+
 class Walk:
     """A journal, whose lines are gone through once: who waits, who has exited, and its ports, by the step that it has come to."""
 
@@ -105,14 +110,10 @@ class Walk:
                     told.end, told.by = words, place
                     self.finish(told)
                     ended.append(told)
-            for port in self.moved(ended):
+            for port in map(self.ports.__getitem__, ports_of(ended)):
                 if port.count > port.most:
                     port.most, port.fullest = port.count, place
             yield entry, ended
-
-    def moved(self, ended):
-        """The ports on which these moved values."""
-        return {self.ports[entry.move.port] for entry in ended if entry.move}
 
     def finish(self, entry):
         words = entry.end.split(" ")
@@ -150,6 +151,23 @@ class Walk:
                 others = (pid for pid in others if pid != entry.pid and pid in offers and (side, number) not in offers[pid])
                 is_left = side == "s" and set() < port.receivers <= self.exits.keys()
                 yield Wait(entry, side, number, *movers, is_left, next(others, None))
+
+
+class Journal(Walk):
+    """A journal that was gone through to its end."""
+
+    def __init__(self, text):
+        super().__init__(text.splitlines())
+        self.entries = []
+        self.levels = collections.defaultdict(dict)  # by port, how many values it holds after each step by which one moved
+        for entry, ended in self:
+            self.entries.append(entry)
+            for number in ports_of(ended):
+                self.levels[number][entry.place] = self.ports[number].count
+            self.take(entry, ended)
+
+    def take(self, entry, ended):
+        """What a reading asks of each step besides."""
 
 
 def clock_of(lines):

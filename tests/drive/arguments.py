@@ -3,18 +3,13 @@
 that each knows: they are bad arguments, and nothing is read or written for them; chanhub_tool says what is wrong. The bytes of a program's own name are no
 argument: under a name that is no UTF-8 it does the same. The last line counts: 'N passed, M failed'."""
 import os
-import pathlib
-import subprocess
 import sys
 import tempfile
 
 sys.dont_write_bytecode = True
-ROOT = pathlib.Path(__file__).resolve().parents[2]
-sys.path.insert(0, str(ROOT / "tools/gate"))
-from counting import Count
+from programs import JOURNALS, Count, said
 
-JOURNAL = (ROOT / "examples" / "journals" / "hand_over").read_bytes()
-WAIT = 60
+JOURNAL = (JOURNALS / "hand_over").read_bytes()
 # no text has such a byte
 BYTE = b"\xff"
 BAD = 2, b"", b"chanhub: bad arguments\n"
@@ -43,8 +38,7 @@ def is_refused(name, answer, more=b""):
 
 
 def told(program, words):
-    done = subprocess.run([program, *words], input=JOURNAL, capture_output=True, timeout=WAIT)
-    return done.returncode, done.stdout, done.stderr
+    return said([program, *words], JOURNAL)
 
 
 def behind(words):

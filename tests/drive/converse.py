@@ -3,20 +3,14 @@
 ones, and compares what it says with what `chanhub replay` (PROGRAM) says of the same journal: line by line, in pieces of
 lines, and several lines at a time. The last line counts: 'N passed, M failed'."""
 import os
-import pathlib
 import random
 import select
 import subprocess
 import sys
-import tempfile
-import tomllib
 
 sys.dont_write_bytecode = True
-ROOT = pathlib.Path(__file__).resolve().parents[2]
-sys.path.insert(0, str(ROOT / "tools/gate"))
-from counting import Count
-
-WAIT = 60
+from programs import JOURNALS, MINUTE as WAIT, Count, examples, faulty_journals, said
+from random_journal import Journal
 
 
 class Conversation:
@@ -51,8 +45,8 @@ class Conversation:
 
 
 def replay(program, journal):
-    done = subprocess.run([program, "replay"], input=journal, capture_output=True, timeout=WAIT)
-    return done.stdout, done.stderr, done.returncode
+    status, told, errors = said([program, "replay"], journal)
+    return told, errors, status
 
 
 def answers(program, lines):
@@ -109,17 +103,6 @@ def converses_at_once(program, tool, journal):
     return talk.end() == (wanted, errors, status)
 
 
-def faulty_journals():
-    """The journals of tests/faulty_journals.toml."""
-    rows = tomllib.loads((ROOT / "tests" / "faulty_journals.toml").read_text())
-    for group in rows["group"]:
-        for name, line in group["lines"].items():
-            yield name, (group["before"] + line + "\n" + group["after"]).encode()
-    for texts in rows["texts"].values():
-        for text in texts:
-            yield repr(text), text.encode()
-
-
 def broken(journal, draw):
     """The journal with one byte changed, added or removed, or with its end cut off."""
     at = draw.randrange(len(journal))
@@ -135,11 +118,8 @@ def main():
     program, tool = sys.argv[1:3]
     count = Count()
     draw = random.Random(1)
-    journals = [(path.name, path.read_bytes()) for path in sorted((ROOT / "examples" / "journals").iterdir()) if not path.suffix]
-    with tempfile.TemporaryDirectory() as work:
-        subprocess.run([ROOT / "tests" / "drive" / "random_journal.py", "101", "6", work], check=True)
-        for path in sorted(pathlib.Path(work).iterdir()):
-            journals.append((path.name, b"".join(path.read_bytes().splitlines(keepends=True)[:120])))
+    journals = [(path.name, path.read_bytes()) for path in examples(JOURNALS)]
+    journals += [(f"random journal {seed}", Journal(seed, 118).text().encode()) for seed in range(101, 107)]
     checks = []
     for name, journal in journals:
         checks.append((f"{name} by lines", lambda j=journal: converses_by_lines(program, tool, j)))
@@ -147,8 +127,8 @@ def main():
         checks.append((f"{name} at once", lambda j=journal: converses_at_once(program, tool, j)))
         for nth in range(8):
             checks.append((f"{name} broken {nth}", lambda j=broken(journal, draw): converses_at_once(program, tool, j)))
-    for name, journal in faulty_journals():
-        checks.append((f"faulty journal {name}", lambda j=journal: converses_at_once(program, tool, j)))
+    for name, journal, _ in faulty_journals():
+        checks.append((f"faulty journal {name}", lambda j=journal.encode(): converses_at_once(program, tool, j)))
     checks.append(("no byte", lambda: converses_at_once(program, tool, b"")))
     for name, check in checks:
         count.test(name, check())

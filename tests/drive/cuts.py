@@ -18,14 +18,11 @@ import sys
 import tempfile
 
 sys.dont_write_bytecode = True
-ROOT = pathlib.Path(__file__).resolve().parents[2]
-sys.path[:0] = [str(ROOT / it) for it in ('tools', 'tools/gate')]
-import model
-from counting import Count
+from programs import MINUTE, Count, said
 from random_journal import Journal
+import model
 
 RUNS = 100
-MINUTE = 60
 # a checkpoint has at most so many lines of ports
 MOST_OF_PORTS = 64 * (1024 + 2)
 MOST_CUTS = 3
@@ -90,10 +87,10 @@ class Cutter:
     def events(self, head, lines):
         """What the program tells of the journal."""
         text = ''.join(line + '\n' for line in head + lines)
-        done = subprocess.run([self.program, 'replay'], input=text.encode(), capture_output=True, timeout=MINUTE)
-        if done.returncode != 0:
-            raise ValueError(f'status {done.returncode}, {done.stderr.decode().strip()}')
-        return done.stdout.decode().splitlines()
+        status, told, errors = said([self.program, 'replay'], text.encode())
+        if status != 0:
+            raise ValueError(f'status {status}, {errors.decode().strip()}')
+        return told.decode().splitlines()
 
     def behind(self, head, first, later):
         """What the first lines tell, and what those behind them do."""

@@ -5,25 +5,17 @@ random journals beside the events that model.py makes of them; and counts how of
 import os
 import pathlib
 import re
-import subprocess
 import sys
 import tempfile
 
 sys.dont_write_bytecode = True
-ROOT = pathlib.Path(__file__).resolve().parents[2]
-sys.path.insert(0, str(ROOT / 'tools/gate'))
-from counting import Count
+from programs import ROOT, Count, said as run
+from random_journal import Journal
 
 EXAMPLES = ROOT / 'examples'
 RANDOM_JOURNALS = 20
 PROCESSES = range(1, 65)
-MINUTE = 60
 STALLED = 4
-
-
-def run(words, given=b'', **environment):
-    done = subprocess.run(words, input=given, capture_output=True, timeout=MINUTE, env={**os.environ, **environment})
-    return done.returncode, done.stdout, done.stderr
 
 
 def model(journal):
@@ -77,15 +69,14 @@ class Examples(Count):
             self.scenario(f'of 64 processes: {name}', self.work / name, report.encode())
 
     def random_journals(self):
-        for third in ([], ['--third']):
-            subprocess.run([ROOT / 'tests/drive/random_journal.py', *third, '1', str(RANDOM_JOURNALS), self.work], check=True)
+        for third in (False, True):
             for seed in range(1, RANDOM_JOURNALS + 1):
-                journal = (self.work / f'journal_{seed}').read_bytes()
+                journal = Journal(seed, 0, third).text().encode()
                 wanted = model(journal)
-                self.test(f'random journal of seed {seed} {third}', wanted[1] and run([self.program, 'replay'], journal) == wanted)
+                self.test(f'random journal of seed {seed} {"--third" * third}', wanted[1] and run([self.program, 'replay'], journal) == wanted)
 
     def pool(self):
-        status, told, errors = run([EXAMPLES / 'stall_against_go' / 'count.sh', '3', '3'], CHANHUB=self.program)
+        status, told, errors = run([EXAMPLES / 'stall_against_go' / 'count.sh', '3', '3'], env={**os.environ, 'CHANHUB': self.program})
         if status == 77:
             self.skip('the pool that stalls on Go: ' + told.decode().splitlines()[-1])
         else:

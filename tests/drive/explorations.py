@@ -17,15 +17,12 @@ import sys
 import tempfile
 
 sys.dont_write_bytecode = True
-ROOT = pathlib.Path(__file__).resolve().parents[2]
-sys.path[:0] = [str(ROOT / it) for it in ('tools', 'tools/gate', 'tests/oracle')]
-import model
-from counting import Count
+from programs import MINUTE, ROOT, SCENARIOS, Count, examples
 from explore import Scenario, answer, stalls
+import model
 
 RUNS = 60
 THREADS = 3
-MINUTE = 60
 STALLS = 4  # the status of a scenario that stalls
 EXAMPLES = ROOT / 'examples'
 THAT_STALL = ('philosophers', 'starving_select', 'stall_against_go/pool')  # under some schedules
@@ -170,10 +167,9 @@ def tells_progress(tool, path, states=80_000):
 def main(program, tool, runs=RUNS, seed=1, threads=THREADS):
     count = Count()
     with tempfile.TemporaryDirectory() as folder:
-        for path in [*sorted((EXAMPLES / 'scenarios').iterdir()), *(EXAMPLES / it for it in THAT_STALL)]:
-            if not path.suffix:
-                why = what_fails(program, tool, path, folder, 0)
-                count.test(f'all schedules of {path.name}', why is None, why or '')
+        for path in [*examples(SCENARIOS), *(EXAMPLES / it for it in THAT_STALL)]:
+            why = what_fails(program, tool, path, folder, 0)
+            count.test(f'all schedules of {path.name}', why is None, why or '')
         path = os.path.join(folder, 'scenario')
         for number in range(seed, seed + runs):
             with open(path, 'w') as file:

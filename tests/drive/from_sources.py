@@ -5,14 +5,11 @@ import os
 import pathlib
 import re
 import shutil
-import subprocess
 import sys
 import tempfile
 
 sys.dont_write_bytecode = True
-ROOT = pathlib.Path(__file__).resolve().parents[2]
-sys.path.insert(0, str(ROOT / 'tools/gate'))
-from counting import Count
+from programs import JOURNALS, ROOT, SCENARIOS, Count, said
 
 PARTS = ('chanhub', 'crates', 'crates.txt', 'examples', 'tests', 'tools')
 UNPROVED = re.compile(rb'^chanhub: from sources.*, not proved: .*\n', re.M)
@@ -20,9 +17,8 @@ HELP = re.compile(rb'^\./chanhub: .*\n', re.M)
 
 
 def told(program, words, tree):
-    with open(ROOT / 'examples' / 'journals' / 'pipeline', 'rb') as given:
-        done = subprocess.run([program, *words], cwd=tree / 'examples', stdin=given, capture_output=True)
-    return done.returncode, done.stdout, done.stderr
+    with open(JOURNALS / 'pipeline', 'rb') as given:
+        return said([program, *words], cwd=tree / 'examples', stdin=given, timeout=None)
 
 
 def is_same(program, words, tree):
@@ -43,13 +39,13 @@ def main():
                 shutil.copytree(source, tree / name, ignore=shutil.ignore_patterns('out'), symlinks=True)
             else:
                 shutil.copy2(source, tree / name)
-        scenarios = [['run', f'scenarios/{it.stem}'] for it in sorted((ROOT / 'examples' / 'scenarios').glob('*.stdout'))]
+        scenarios = [['run', f'scenarios/{it.stem}'] for it in sorted(SCENARIOS.glob('*.stdout'))]
         for words in (*scenarios, ['replay'], ['verify', 'journals/pipeline', 'journals/pipeline.stdout'],
                       ['verify', 'journals/pipeline', 'scenarios/ring'], ['run', 'missing'], ['run', 'README.md'], ['run', '--journal']):
             count.test(' '.join(words), is_same(program, words, tree))
         explain = [tree / 'tools' / 'explain.sh', '--every', 'philosophers']
-        done = subprocess.run(explain, cwd=tree / 'examples', env={**os.environ, 'TMPDIR': work, 'OPENER': ':'}, capture_output=True)
-        count.test('explain.sh --every', done.stdout.startswith(b'stall after 10 steps\n'), done.stderr)
+        _, printed, errors = said(explain, cwd=tree / 'examples', env={**os.environ, 'TMPDIR': work, 'OPENER': ':'}, timeout=None)
+        count.test('explain.sh --every', printed.startswith(b'stall after 10 steps\n'), errors)
     return count.end()
 
 

@@ -23,18 +23,15 @@ import re
 import subprocess
 import sys
 import tempfile
-import tomllib
 import unicodedata
 
 sys.dont_write_bytecode = True
-ROOT = pathlib.Path(__file__).resolve().parents[2]
-sys.path[:0] = [str(ROOT / it) for it in ("tools", "tools/gate", "tests/oracle")]
+from programs import ROOT, Count, table
+from random_journal import Journal as RandomJournal
 import overview
 import page
 import picture
 import story_model
-from counting import Count
-from random_journal import Journal as RandomJournal
 
 RANDOM = 50
 BLOCK, NEVER = 64, 0xffffffff  # steps; no step
@@ -158,57 +155,52 @@ class Part(picture.Journal):
     def __init__(self, text, first, last):
         super().__init__(text)
         self.whole, self.shown = picture.Journal(text), (first, last)
-        blocks = [place for place in range(len(self.lines)) if (first - 1) // BLOCK <= place // BLOCK <= (last - 1) // BLOCK]
+        blocks = [place for place in range(len(self.entries)) if (first - 1) // BLOCK <= place // BLOCK <= (last - 1) // BLOCK]
         self.window, self.told = range(blocks[0], blocks[-1] + 1), set(blocks)
-        for one in super().asked():
-            by = one.ended.by if one.ended else NEVER
-            if one.place < self.window.start <= by or one.line.split()[1] in ("make", "reopen", "start", "exit"):
+        for one in self.entries:
+            by = one.by if one.end else NEVER
+            if one.place < self.window.start <= by or one.word in ("make", "reopen", "start", "exit"):
                 self.told.add(one.place)
-            if one.ended and (words_of(one) == "stalled" or by >= self.window.start and one.place < self.window.stop):
+            if one.end and (one.end == "stalled" or by >= self.window.start and one.place < self.window.stop):
                 self.told.add(by)
-        self.told |= {place for _, *both in self.passages() for one, other in (both, reversed(both)) if other[0] in self.window for place in one[:2]}
-        self.senders = {received[0]: sent for _, sent, received in self.passages()}
-        self.as_told = [self.known(one) for one in super().asked()]
-
-    def asked(self):
-        return self.as_told
-
-    def known(self, one):
-        """Who got a value that is not told got one. How the calls of told steps ended is told, and when."""
-        assert one.place not in self.told or one.ended is None or one.ended.by in self.told, f"the end of step {one.place + 1}"
-        if " got " in words_of(one) and self.senders[one.place][0] not in self.told:
-            return one._replace(ended=one.ended._replace(event=one.ended.event[: one.ended.event.index(" got ")] + " got a value"))
-        return one
+        ways = [(sent, sent.partner) for sent in self.passages()]
+        self.told |= {place for way in ways if any(one.place in self.window for one in way) for one in way for place in (one.place, one.by)}
+        for one in self.entries:
+            assert one.place not in self.told or one.end is None or one.by in self.told, f"the end of step {one.place + 1}"
+        for sent, received in ways:
+            if sent.place not in self.told:  # who got a value that is not told got one
+                received.end, received.move = f"{received.end[:received.end.index(' got ')]} got a value", received.move._replace(value=None)
 
 
 def is_told(journal, *places):
     return not isinstance(journal, Part) or all(place in journal.told for place in places)
 
 
-def words_of(asked):
+def name_of(one):
+    return f"P{one.pid}, step {one.place + 1}"
+
+
+def words_of(one):
     """What a step was told at last."""
-    return asked.ended.event.split(" ", 1)[1] if asked.ended else ""
+    return one.end or ""
 
 
-def label_of(asked):
+def label_of(one):
     """The text of a box without its value."""
-    line, end = asked.line.split(), words_of(asked)
-    if end.startswith("fault"):
-        return "f" + end.split()[1]
-    case = picture.shown_case(line, asked.cases, end) if asked.cases else None
+    if words_of(one).startswith("fault"):
+        return "f" + one.end.split()[1]
+    case = picture.shown_case(one)
     if case:
-        return case[0] + case[1]
-    return {"make": "m" + end[5:], "select": "def" if end == "default" else "?", "exit": "exit"}.get(line[1]) or {"close": "c", "reopen": "o", "cancel": "x", "start": "g"}[line[1]] + line[2]
+        return case[0] + str(case[1])
+    word, *words = one.line.split()[1:]
+    if word in ("close", "reopen", "cancel", "start"):
+        return {"close": "c", "reopen": "o", "cancel": "x", "start": "g"}[word] + words[0]
+    return {"make": "m" + words_of(one)[5:], "select": "def" if one.end == "default" else "?", "exit": "exit"}[word]
 
 
-def value_of(asked):
-    """The value that a step moved, as the journal spells it."""
-    line, end = asked.line.split(), words_of(asked)
-    if " got " in end:
-        return None if end.endswith(" got a value") else end.split(" got ")[1]
-    if not end.endswith(" sent"):
-        return None
-    return line[3] if line[1] == "send" else line[3 + int(end.split()[1])].split(":")[1]
+def value_of(one):
+    """The value that a step moved, as the journal spells it, if that is told."""
+    return one.move and one.move.value
 
 
 def readable(value):
@@ -225,7 +217,7 @@ def readable(value):
 def held(journal):
     """The levels: equal ones that follow each other are one."""
     merged = []
-    for level in journal.levels():
+    for level in journal.held():
         if merged and merged[-1].port == level.port and merged[-1].until == level.first and merged[-1].count == level.count:
             merged[-1] = merged[-1]._replace(until=level.until)
         else:
@@ -234,60 +226,53 @@ def held(journal):
 
 
 def held_after(journal, port, step):
-    """The places of the sends whose values a port holds after a step, oldest first."""
-    sent, received = ([asked for asked, by, _ in journal.moved[side][port] if by <= step] for side in "sr")
+    """The sends whose values a port holds after a step, oldest first."""
+    sent, received = ([one for one in journal.moved[side][port] if one.by <= step] for side in "sr")
     return sent[len(received) :]
 
 
 def known_of(journal, sends):
     """Of these sends those by steps of the window."""
-    return [place for place in sends if not isinstance(journal, Part) or journal.asked()[place].ended.by >= journal.window.start]
+    return [one for one in sends if not isinstance(journal, Part) or one.by >= journal.window.start]
 
 
-def pid_at(journal, place):
-    return int(journal.lines[place].split()[0])
-
-
-def guess_of(journal, by, pid, case):
+def guess_of(journal, by, wait):
     """For whom a stalled case perhaps waits: a send on a port from which somebody last took its own value back for one whose
     value it holds, if that one is stalled too and does not wait to send there; or else for whom pictures name."""
-    stalled = {other: picture.cases_of(journal.lines[asked]) for step, other, asked in journal.stalls if step == by}
-    passed = [(sent[0], received[0]) for port, sent, received in journal.passages() if port == int(case[1]) and received[1] <= by]
-    if case[0] == "s" and passed and not is_told(journal, *passed[-1]):
+    stalled = {one.pid: one.cases for one in journal.stalled if one.by == by}
+    passed = [sent for sent in journal.moved["s"][wait.port] if sent.partner and sent.partner.by <= by][-1:] if wait.side == "s" else []
+    if passed and not is_told(journal, passed[0].place, passed[0].partner.place):
         return None
-    is_lock = case[0] == "s" and passed and pid_at(journal, passed[-1][0]) == pid_at(journal, passed[-1][1])
-    owners = [pid_at(journal, place) for place in known_of(journal, held_after(journal, int(case[1]), by))] if is_lock else []
-    owner = next((one for one in owners if one in stalled and case not in stalled[one]), None)
-    if owner is not None:
-        return owner
-    return picture.whom(journal, by, case, pid, *(picture.mover(journal.moved[side][int(case[1])], by) for side in "sr"))
+    if passed and passed[0].pid == passed[0].partner.pid:
+        for owner in known_of(journal, held_after(journal, wait.port, by)):
+            if owner.pid in stalled and ("s", wait.port) not in [case[:2] for case in stalled[owner.pid]]:
+                return owner.pid
+    return wait.whom
 
 
 def guesses(journal):
     """Of each stall who perhaps waits for whom."""
-    for by, pid, asked in journal.stalls:
-        for case in picture.cases_of(journal.lines[asked]) if not isinstance(journal, Part) or by in journal.window else []:
-            other = guess_of(journal, by, pid, case)
+    for by, waits in journal.vain.items():
+        for wait in waits if not isinstance(journal, Part) or by in journal.window else []:
+            other = guess_of(journal, by, wait)
             if other is not None:
-                yield by, pid, other
+                yield by, wait.entry.pid, other
 
 
 def ways(journal):
     """By the place of each move, all moves of that value on its way: a process passes on what it got if it sends the same before
     it gets another, so a send continues the way of what its process got last, if that is the same."""
-    receivers = {sent[0]: received[0] for _, sent, received in journal.passages()}
-    senders = {received: sent for sent, received in receivers.items()}
     first, last = {}, {}
-    for one in journal.asked():
-        pid, words = int(one.line.split()[0]), words_of(one)
-        if words.endswith(" sent"):
-            got, value = last.get(pid, (None, None))
-            first[one.place] = first[senders[got]] if value == value_of(one) else one.place
-        if " got " in words:
-            last[pid] = one.place, value_of(one)
+    for one in (one for one in journal.entries if one.move):
+        if one.move.side == "r":
+            last[one.pid] = one
+        else:
+            got = last.get(one.pid)
+            first[one.place] = first[got.partner.place] if got and got.move.value == one.move.value else one.place
     moves = collections.defaultdict(set)
     for send, root in first.items():
-        moves[root] |= {send} | ({receivers[send]} if send in receivers else set())
+        received = journal.entries[send].partner
+        moves[root] |= {send} | ({received.place} if received else set())
     return {place: way for way in moves.values() for place in way}
 
 
@@ -306,70 +291,63 @@ def cases_spelled(line):
 
 def held_lines(journal, by):
     """What the panel says of each port on which a call that a step stalled waits to send, if it holds values."""
-    stalled = [asked for step, _, asked in journal.stalls if step == by]
-    asked = journal.asked()
-    for port in dict.fromkeys(int(port) for place in stalled for side, port in asked[place].cases if side == "s"):
+    for port in dict.fromkeys(wait.port for wait in journal.vain.get(by, ()) if wait.side == "s"):
         held = held_after(journal, port, by)
         known = known_of(journal, held)
-        told = [f"{readable(value_of(asked[place]))}, sent by P{pid_at(journal, place)} at step {place + 1}" for place in known[:4]]
+        told = [f"{readable(value_of(one))}, sent by P{one.pid} at step {one.place + 1}" for one in known[:4]]
         if held:
             yield f"port {port} holds {len(held)} value{'s' if len(held) > 1 else ''}" + (": " if told else "") + "; ".join([*told, *[".."][: len(known) > 4]])
 
 
 def stalled_lines(journal, by):
     """What the panel says of each call that a step stalled."""
-    for step, pid, asked in journal.stalls:
-        if step == by:
-            line = journal.lines[asked]
-            others = [guess_of(journal, by, pid, case) for case in picture.cases_of(line)]
+    for one in journal.stalled:
+        if one.by == by:
+            others = [guess_of(journal, by, wait) for wait in journal.vain[by] if wait.entry is one]
             told = "".join(f"; perhaps for P{other}" for other in others if other is not None)
-            yield f"P{pid}, step {asked + 1} waits to {' or to '.join(map(case_words, cases_spelled(line)))}{told}"
+            yield f"{name_of(one)} waits to {' or to '.join(map(case_words, cases_spelled(one.line)))}{told}"
 
 
 def last_cells(journal, by):
     """What the panel says of each port on which a call that a step stalled waits: who sent and who received there last, and, if one waits
     to send there, whether all who received have exited."""
-    cases = [case for step, _, asked in journal.stalls if step == by for case in picture.cases_of(journal.lines[asked])]
-    for port in dict.fromkeys(port for _, port in cases if port != "0"):
-        sent, got = ([place for place, step, _ in journal.moved[side][int(port)] if step <= by] for side in "sr")
-        movers = [f"P{pid_at(journal, places[-1])}, step {places[-1] + 1}" if places and is_told(journal, places[-1])
-            else f"step {places[-1] + 1} (not told)" if places else "nobody" for places in (sent, got)]
-        opened = max((step for step in journal.reopened[int(port)] if step <= by), default=-1)
-        receivers = {pid_at(journal, place) for place, step, _ in journal.moved["r"][int(port)] if opened < step <= by}
-        is_gone = ("s", port) in cases and set() < receivers <= journal.left(by)
-        yield from [port, movers[0], movers[1] + ("; all who received there have left" if is_gone else "")]
+    waits = collections.defaultdict(list)
+    for wait in journal.vain.get(by, ()):
+        waits[wait.port].append(wait)
+    for port, (wait, *_) in waits.items():
+        movers = ["nobody" if one is None else name_of(one) if is_told(journal, one.place) else f"step {one.place + 1} (not told)"
+            for one in (wait.sender, wait.receiver)]
+        is_gone = any(wait.is_left for wait in waits[port])
+        yield from [str(port), movers[0], movers[1] + ("; all who received there have left" if is_gone else "")] if port else ()
 
 
 def cause_lines(journal, by):
     """What the panel says first of a deadlock: to which port nobody ever came, who wait for each other, and who is left alone."""
-    stalled = [(pid, asked) for step, pid, asked in journal.stalls if step == by]
     told, pairs = [], []
-    for pid, asked in stalled if not isinstance(journal, Part) or by in journal.window else []:
-        for case in picture.cases_of(journal.lines[asked]):
-            other, absent = ("r", "received from") if case[0] == "s" else ("s", "sent on")
-            if case[1] != "0" and not any(step <= by for _, step, _ in journal.moved[other][int(case[1])]):
-                told.append(f"Before it nobody {absent} port {case[1]}.")
-            pairs.append((pid, guess_of(journal, by, pid, case)))
+    for wait in journal.vain.get(by, ()) if not isinstance(journal, Part) or by in journal.window else []:
+        other, absent = (wait.receiver, "received from") if wait.side == "s" else (wait.sender, "sent on")
+        told += [f"Before it nobody {absent} port {wait.port}."] * bool(wait.port and other is None)
+        pairs.append((wait.entry.pid, guess_of(journal, by, wait)))
     told += [f"P{pid} and P{other} perhaps wait for each other." for pid, other in pairs if other is not None and pid < other and (other, pid) in pairs]
-    return list(dict.fromkeys(told + ["All others have exited."] * (len(stalled) == 1 and journal.procs > 1)))
+    is_alone = sum(one.by == by for one in journal.stalled) == 1 and journal.procs > 1
+    return list(dict.fromkeys(told + ["All others have exited."] * is_alone))
 
 
 def own_steps(journal, place):
     """The steps before and behind one that its process asked, if they are there."""
-    own = [at for at, line in enumerate(journal.lines) if line.split()[0] == journal.lines[place].split()[0]]
+    own = [one.place for one in journal.entries if one.pid == journal.entries[place].pid]
     at = own.index(place)
     return own[at - 1] if at else None, own[at + 1] if at + 1 < len(own) else None
 
 
 def waits_told(journal):
     """All calls that waited, the longest first and the older of equal ones first: for how long, and the words of the panel."""
-    asked = journal.asked()
-    waits = [((one.ended.by if one.ended else len(asked) - 1) - one.place, one) for one in asked
-        if one.ended is None or one.ended.by > one.place]
-    for steps, one in sorted(waits, key=lambda wait: (-wait[0], wait[1].place)):
-        ender = "the deadlock at" if words_of(one) == "stalled" else f"P{pid_at(journal, one.ended.by)}," if one.ended else ""
-        until = f"{ender} step {one.ended.by + 1}" if one.ended else "the end"
-        yield [str(steps), f"P{pid_at(journal, one.place)}, step {one.place + 1} {one.line} {answer_of(one)}", until]
+    entries = journal.entries
+    waited = [one for one in entries if one.end is None or one.by > one.place]
+    for one in sorted(waited, key=lambda one: (-one.waited(len(entries)), one.place)):
+        ender = "the deadlock at" if one.end == "stalled" else f"P{entries[one.by].pid}," if one.end else ""
+        until = f"{ender} step {one.by + 1}" if one.end else "the end"
+        yield [str(one.waited(len(entries))), f"{name_of(one)} {one.line} {answer_of(one)}", until]
 
 
 # ---- what it draws
@@ -415,8 +393,8 @@ class Drawn:
     def port(self, y):
         return min(self.ports, key=lambda port: abs(self.ports[port] - y))
 
-    def pid(self, line):
-        return min(int(line.split()[0]), self.procs)
+    def pid(self, one):
+        return min(one.pid, self.procs)
 
 
 def close(one, other, by=1.0):
@@ -437,7 +415,7 @@ def answer_of(one):
     """What a step was told, in words."""
     words = words_of(one)
     fault = re.fullmatch(r"fault (\d+)", words)
-    told = "waits to the end" if one.ended is None else f"{words}: {story_model.FAULTS[int(fault[1]) - 1]}" if fault else words
+    told = "waits to the end" if one.end is None else f"{words}: {story_model.FAULTS[int(fault[1]) - 1]}" if fault else words
     told = re.sub(r"^case \d+ ", "", told)
     got = re.fullmatch(r"got (.*)", told)
     return f"got {readable(got[1])}" if got else told
@@ -446,28 +424,29 @@ def answer_of(one):
 def title_of(one, count):
     """What the mouse on a box is told."""
     told = answer_of(one)
-    steps = (one.ended.by if one.ended else count - 1) - one.place
-    waits = one.ended is None or steps > 0
+    steps = one.waited(count)
+    waits = one.end is None or steps > 0
     return f"step {one.place + 1}: {one.line}\n{told}" + (f", waited {steps} step{'' if steps == 1 else 's'}" if waits else "")
 
 
 def bars_of(drawn, journal, first, end, left):
     """Each call that waits, from where to where, and whether it ends."""
-    asked, edge = journal.asked(), drawn.width + 2
+    asked, edge = journal.entries, drawn.width + 2
     for one in asked if not isinstance(journal, Part) else [one for one in asked if one.place in journal.told]:
-        until = len(asked) if one.ended is None else one.ended.by
+        until = len(asked) if one.end is None else one.by
         if one.place < until and one.place < end and until >= first:
             begin = max(left, drawn.x(one.place))
-            yield one, begin, max(begin, min(edge, drawn.x(until))), drawn.pid(one.line)
+            yield one, begin, max(begin, min(edge, drawn.x(until))), drawn.pid(one)
 
 
 def levels_of(drawn, journal, first, end):
-    count, window = len(journal.lines), journal.window if isinstance(journal, Part) else range(len(journal.lines))
+    count = len(journal.entries)
+    window = journal.window if isinstance(journal, Part) else range(count)
     for level in held(journal):
         until, since = min(count if level.until is None else level.until, window.stop), max(level.first, window.start - 1)
         if since < min(end, window.stop) and until >= max(first, window.start):
             left = max(64.0, drawn.x(since))
-            yield left, max(left + 1, min(float(drawn.width), drawn.x(until))), level.port, 16.0 * level.count / journal.room[level.port]
+            yield left, max(left + 1, min(float(drawn.width), drawn.x(until))), level.port, 16.0 * level.count / journal.ports[level.port].room
 
 
 def fill_of(colours, label):
@@ -480,16 +459,16 @@ def fill_of(colours, label):
 def dash_of(one):
     """How the edge of a box is dashed."""
     end = words_of(one)
-    if end == "stalled" or end.startswith("fault") or end.endswith(" closed"):
+    if one.is_trouble:
         return "6px, 2px"
-    return "4px, 3px" if one.ended is None else "2px, 3px" if end.endswith(" drained") else "1px, 2px" if end == "cancelled" else "none"
+    return "4px, 3px" if one.end is None else "2px, 3px" if end.endswith(" drained") else "1px, 2px" if end == "cancelled" else "none"
 
 
 def check_boxes(drawn, journal, first, end):
-    asked = journal.asked()
+    asked = journal.entries
     boxes = {one.place: one for one in asked[first:end] if is_told(journal, one.place)}
     agree("box", [(shape.x + shape.width / 2, drawn.lane(shape.middle())) for shape in drawn.kind("box")],
-          [(drawn.x(one.place), drawn.pid(one.line)) for one in boxes.values()])
+          [(drawn.x(one.place), drawn.pid(one)) for one in boxes.values()])
     for shape in drawn.kind("box"):
         one = boxes[round((shape.x + shape.width / 2 - drawn.zero) / drawn.dots) - 1]
         assert shape.told == title_of(one, len(asked)), f"{shape.told!r} and not {title_of(one, len(asked))!r}"
@@ -510,15 +489,15 @@ def check_shapes(drawn, journal, first, end):
     bars = list(bars_of(drawn, journal, first, end, 62.0))
     agree("bar", [(float(shape.x), float(shape.right()), drawn.lane(shape.middle())) for shape in drawn.kind("bar")], [bar[1:] for bar in bars])
     agree("knob", [(float(shape.cx), drawn.lane(shape.cy)) for shape in drawn.kind("knob")], [
-        (right, lane) for one, _, right, lane in bars if one.ended and one.ended.by < end])
+        (right, lane) for one, _, right, lane in bars if one.end and one.by < end])
     agree("arrow", [(shape.way[0], shape.way[-2], drawn.lane(shape.way[1]), drawn.lane(shape.way[-1]), shape.stroke) for shape in drawn.kind("arrow")], [
-        (drawn.x(sent[1]), drawn.x(received[1]), drawn.pid(sent[2]), drawn.pid(received[2]), colours["h%d" % (port % 8)])
-        for port, sent, received in journal.passages() if is_told(journal, *sent[:2], *received[:2])
-        and (first <= sent[1] < end or first <= received[1] < end)])
+        (drawn.x(sent.by), drawn.x(received.by), drawn.pid(sent), drawn.pid(received), colours["h%d" % (sent.move.port % 8)])
+        for sent, received in ((sent, sent.partner) for sent in journal.passages())
+        if is_told(journal, sent.place, sent.by, received.place, received.by) and (first <= sent.by < end or first <= received.by < end)])
     agree("level", [(float(shape.x), float(shape.right()), drawn.port(shape.y + shape.height - 8), float(shape.height)) for shape in drawn.kind("level")],
           list(levels_of(drawn, journal, first, end)), 0.6)
     agree("stall", [(shape.x + shape.width / 2, drawn.lane(shape.middle())) for shape in drawn.kind("field")], [
-        (drawn.x(by), pid) for by, pid, asked in journal.stalls if first <= by < end and is_told(journal, asked)])
+        (drawn.x(one.by), one.pid) for one in journal.stalled if first <= one.by < end and is_told(journal, one.place)])
     told = {(shape.way[0], drawn.lane(shape.way[1]), drawn.lane(shape.way[-1])) for shape in drawn.kind("guess")}
     agree("guess", told, {(drawn.x(by) + min(66, dots * 0.9) / 2 + 3, pid, other) for by, pid, other in guesses(journal) if first <= by < end})
 
@@ -532,7 +511,7 @@ def check_canvas(drawn, journal, first, end):
     height = max((words[3] for words in as_wide), default=0)
     boxes = [words for words in as_wide if words[3] >= 4 and words[3] == height]
     agree("box", [(x + w / 2, drawn.lane(y + h / 2)) for x, y, w, h in boxes], [
-        (drawn.x(one.place), drawn.pid(one.line)) for one in journal.asked()[first:end] if is_told(journal, one.place)])
+        (drawn.x(one.place), drawn.pid(one)) for one in journal.entries[first:end] if is_told(journal, one.place)])
     thin = min((words[3] for words in lanes), default=0)
     bars = [words for words in lanes if words[3] == thin and words not in boxes]
     agree("bar", [(float(x), float(x + w), drawn.lane(y + h / 2)) for x, y, w, h in bars], [bar[1:] for bar in bars_of(drawn, journal, first, end, 62.0)])
@@ -560,14 +539,14 @@ class Summed:
     """What is known of each block of steps, counted step by step, and spread evenly over it: what lanes waited and so on, before a step."""
 
     def __init__(self, journal):
-        self.count, self.tables = len(journal.lines), {}
-        blocks, asked = blocks_of(self.count), journal.asked()
+        self.count, self.tables = len(journal.entries), {}
+        blocks, asked = blocks_of(self.count), journal.entries
         for lane in range(journal.procs + 1):
-            own = [(one, one.ended.by if one.ended else self.count) for one in asked if lane_of(journal, one) == lane]
+            own = [(one, one.by if one.end else self.count) for one in asked if lane_of(journal, one) == lane]
             self.tables["waited", lane] = [sum(max(0, min(by, end) - one.place) for one, by in own) for _, end in [(0, 0), *blocks]]
             self.tables["asked", lane] = [sum(one.place < end for one, _ in own) for _, end in [(0, 0), *blocks]]
-            self.tables["troubles", lane] = [sum(by < end and is_trouble(words_of(one)) for one, by in own) for _, end in [(0, 0), *blocks]]
-        held_in = {level.port for level in journal.levels()}
+            self.tables["troubles", lane] = [sum(by < end and one.is_trouble for one, by in own) for _, end in [(0, 0), *blocks]]
+        held_in = {level.port for level in journal.held()}
         self.most = {port: [most_held(journal, port, *block) for block in blocks] for port in held_in}
 
     def before(self, name, lane, step):
@@ -590,7 +569,7 @@ def columns_of(drawn, journal, summed, first, end, fine):
             rows.append((drawn.colours[colour], y * fine, rows_of(size, fine), 0.5))
     for port, y in drawn.ports.items():
         most = max(summed.most[port][int(max(0, first) // BLOCK) : math.ceil(end / BLOCK)])
-        rows.append((drawn.colours[f"h{port % 8}"], (y + 8) * fine, rows_of(16 * most / journal.room[port], fine), 1))
+        rows.append((drawn.colours[f"h{port % 8}"], (y + 8) * fine, rows_of(16 * most / journal.ports[port].room, fine), 1))
     for several in itertools.product(*(many for _, _, many, _ in rows)):
         colours = {}
         for (colour, y, _, above), many in zip(rows, several):
@@ -640,7 +619,7 @@ BROKEN = {
 def check_columns(browser, count, work):
     """Views from afar, on several screens, and whether a wrong one would be noticed."""
     text = RandomJournal(*FAR).text()
-    journal = picture.Journal(text.encode())
+    journal = picture.Journal(text)
     summed, path, right = Summed(journal), work / "far.html", page_of(text)
 
     def look(text, fine, *view):
@@ -670,7 +649,7 @@ def in_view(drawn, count):
 def drawn_at(browser, journal, first, steps):
     browser.value(f"page.view.show({first}, {steps}); window.drawn = []; page.paint()")
     drawn = Drawn(browser, journal.procs)
-    return drawn, in_view(drawn, len(journal.lines))
+    return drawn, in_view(drawn, len(journal.entries))
 
 
 TOOLS = []  # the program that writes pages, if one is given
@@ -697,9 +676,9 @@ def check_waiting(browser, journal):
     """How many processes wait in each column of the strip, and where calls are stalled."""
     browser.value("page.layOut()")
     colours, pixels = browser.value("coloursOfPage()"), list(pixels_of(browser, "strip"))
-    asked, total = journal.asked(), len(journal.lines)
-    waits = [(one.place, one.ended.by if one.ended else total) for one in asked if one.ended is None or one.ended.by > one.place]
-    marks = {x + more for by, _, _ in journal.stalls for x in [int(by / (total / WIDTH))] for more in range(max(2, int(1 / (total / WIDTH))))}
+    total = len(journal.entries)
+    waits = [(one.place, one.by if one.end else total) for one in journal.entries if one.end is None or one.by > one.place]
+    marks = {x + more for by in journal.vain for x in [int(by / (total / WIDTH))] for more in range(max(2, int(1 / (total / WIDTH))))}
     assert len(pixels) == WIDTH, f"{len(pixels)} columns"
     for x, runs in enumerate(pixels):
         first, end = x // 2 * 2 * total / WIDTH, (x // 2 * 2 + 2) * total / WIDTH
@@ -711,9 +690,9 @@ def check_waiting(browser, journal):
 
 def check_random(browser, count, work, seed, third=False):
     text = RandomJournal(seed, 0, third).text()
-    journal = picture.Journal(text.encode())
+    journal = picture.Journal(text)
     open_page(browser, text, work / "random.html")
-    draw, total = random.Random(seed).randrange, len(journal.lines)
+    draw, total = random.Random(seed).randrange, len(journal.entries)
     for steps in (total, 40, 12):
         first = draw(total - steps + 1)
 
@@ -735,7 +714,7 @@ def check_random(browser, count, work, seed, third=False):
 
 def check_part(browser, count, work, text, name, window, several):
     """A page of some steps: it opens with them in view; nothing that is not told is drawn, found, chosen or said."""
-    journal = Part(text.encode(), *window)
+    journal = Part(text, *window)
     open_page(browser, text, work / "part.html", window)
     name, (first, last) = f"steps {window[0]} to {window[1]} of {name}", window
 
@@ -744,8 +723,8 @@ def check_part(browser, count, work, text, name, window, several):
         check_fields(browser, drawn, journal)
 
     opened = browser.value("[page.view.first, page.view.steps, (page.view.width - 64) / 90]")
-    steps = min(len(journal.lines), max(last - first + 1, opened[2]))
-    count.test(f"{name} are in view", close(opened[:2], [float(min(first - 1, len(journal.lines) - steps)), float(steps)], 0.5), opened)
+    steps = min(len(journal.entries), max(last - first + 1, opened[2]))
+    count.test(f"{name} are in view", close(opened[:2], [float(min(first - 1, len(journal.entries) - steps)), float(steps)], 0.5), opened)
     for view in [tuple(opened[:2]), *several]:
         count.run(f"{name}: view {view}", lambda: test(*drawn_at(browser, journal, *view)))
     count.run(f"{name}: the way back", lambda: check_way_back(browser, journal, opened[:2]))
@@ -757,7 +736,7 @@ def check_part(browser, count, work, text, name, window, several):
 def check_way_back(browser, journal, opened):
     """A link in the header leads to the steps that are told, if not all are."""
     browser.value("page.view.show(0, 40); new Promise((done) => setTimeout(done, 300))")  # until the address has followed
-    link, (first, end), count = texts(browser, "#part a"), (journal.window.start, journal.window.stop), len(journal.lines)
+    link, (first, end), count = texts(browser, "#part a"), (journal.window.start, journal.window.stop), len(journal.entries)
     assert link == ([f"Steps {first + 1} to {end}"] if end - first < count else []), link
     said = browser.value("document.getElementById('told').parentElement.checkVisibility()")
     assert said == bool(link), "what is said of values that lie in a port all along"
@@ -779,7 +758,7 @@ def check_way_back(browser, journal, opened):
 def check_fields(browser, drawn, journal):
     """Pale fields stand where the columns of the steps before the window and behind it are in view, and say so."""
     told = browser.value("""["early", "late"].map((id) => document.getElementById(id)).map((one) => [one.offsetLeft, one.offsetWidth, one.textContent])""")
-    count, dots = len(journal.lines), drawn.dots / 2
+    count, dots = len(journal.entries), drawn.dots / 2
     for (left, width, text), (first, end) in zip(told, ((0, journal.window.start), (journal.window.stop, count))):
         begin, until = max(64, drawn.x(first) - dots), min(drawn.width, drawn.x(end) - dots)
         wanted = [begin, until - begin] if until > begin else [left, 0]
@@ -799,18 +778,17 @@ def check_told(text, journal):
 
 def check_value(browser, journal, one):
     """What the panel says of a value that a step moved: what it was, and where its other end is, if that is told."""
-    said, words, value = texts(browser, "#value")[0], words_of(one), value_of(one)
-    if not (" got " in words or words.split(" ")[-1:] == ["sent"]):
+    said, value, other = texts(browser, "#value")[0], value_of(one), one.partner
+    if not one.move:
         assert said == "", f"a value at step {one.place + 1}: {said}"
         return
     assert said.startswith(f"{'not told' if value is None else readable(value)} "), f"value of step {one.place + 1}: {said}"
-    if " got " in words:
-        sent = journal.senders[one.place][0]
-        wanted = f"from P{pid_at(journal, sent)}, step {sent + 1}" if sent in journal.told else f"from step {sent + 1} (not told)"
+    if one.move.side == "r":
+        wanted = f"from {name_of(other)}" if other.place in journal.told else f"from step {other.place + 1} (not told)"
+    elif other and other.place in journal.told:
+        wanted = f"to {name_of(other)}"
     else:
-        received = next((received for received, sent in journal.senders.items() if sent[0] == one.place), None)
-        is_known = received in journal.told
-        wanted = f"to P{pid_at(journal, received)}, step {received + 1}" if is_known else "stays in port" if one.place in journal.window else "who got it is not told"
+        wanted = "stays in port" if one.place in journal.window else "who got it is not told"
     assert wanted in said, f"value of step {one.place + 1}: {said} and not {wanted}"
 
 
@@ -829,29 +807,28 @@ def check_deadlock(browser, journal, place):
 def check_part_panel(browser, journal):
     """What the panel says of steps that are told, and that others are not."""
     whole, (first, end) = browser.value("document.getElementById('panel').innerText"), (journal.window.start, journal.window.stop)
-    count = len(journal.lines)
+    count = len(journal.entries)
     wanted = [f"Steps {first + 1} to {end} are told, and of the others those that bear on them."] if end - first < count else [""]
     told = texts(browser, "#told")
     assert told == wanted and not JUNK.search(whole), (told, whole)
     rows = []
     for steps, words, until in list(waits_told(journal.whole))[:5]:
-        one = journal.asked()[int(re.search(r"step (\d+)", words)[1]) - 1]
-        words = f"P{pid_at(journal, one.place)}, step {one.place + 1}"
-        told = [f"{words} {one.line} {answer_of(one)}", until]
-        rows += [steps, *(told if one.place in journal.told else [f"{words} (not told)"])]
+        one = journal.entries[int(re.search(r"step (\d+)", words)[1]) - 1]
+        told = [f"{name_of(one)} {one.line} {answer_of(one)}", until]
+        rows += [steps, *(told if one.place in journal.told else [f"{name_of(one)} (not told)"])]
     told = texts(browser, "#longest td")
     assert told == rows, f"{told} and not {rows}"
     inside = sorted(journal.told & set(journal.window))
     outside = sorted(journal.told - set(journal.window))
-    for place in [*inside[:2], *inside[-2:], *outside[:: len(outside) // 8 + 1], *{by for by, _, _ in journal.stalls}]:
+    for place in [*inside[:2], *inside[-2:], *outside[:: len(outside) // 8 + 1], *journal.vain]:
         browser.value(f"page.choose({place})")
         said = browser.value("document.getElementById('panel').innerText")
-        assert title(browser) == f"Step {place + 1} of P{pid_at(journal, place)}" and not JUNK.search(said), (place + 1, JUNK.search(said), said)
-        check_value(browser, journal, journal.asked()[place])
-        before = [f"{one.place + 1} {one.line if one.place in journal.told else 'not told'}" for one in journal.asked()[max(0, place - 6) : place]]
+        assert title(browser) == f"Step {place + 1} of P{journal.entries[place].pid}" and not JUNK.search(said), (place + 1, JUNK.search(said), said)
+        check_value(browser, journal, journal.entries[place])
+        before = [f"{one.place + 1} {one.line if one.place in journal.told else 'not told'}" for one in journal.entries[max(0, place - 6) : place]]
         said = texts(browser, "#before li")
         assert len(said) == len(before) and all(map(str.startswith, said, before)), f"before step {place + 1}: {said} and not {before}"
-    for place in {by for by, _, _ in journal.stalls} & set(journal.window):
+    for place in journal.vain.keys() & set(journal.window):
         check_deadlock(browser, journal, place)
     for place in sorted(set(range(count)) - journal.told)[:3]:
         shown = title(browser)
@@ -872,7 +849,7 @@ def check_part_panel(browser, journal):
 def check_long(browser, count, work, seed, total):
     """A journal of many blocks: what a window shows began and ends in other ones."""
     text = RandomJournal(seed, total).text()
-    journal = picture.Journal(text.encode())
+    journal = picture.Journal(text)
     open_page(browser, text, work / "random.html")
     draw = random.Random(seed).randrange
     places = [(steps, draw(total - steps + 1)) for steps in (total, 900, 450, 100, 100, 30, 30)]
@@ -901,7 +878,7 @@ def check_edges(browser, count, work):
     count.test("a page of no steps", told == [0, 0, "0 steps of 2 processes on 0 ports"], told)
     for total in 1, BLOCK - 1, BLOCK, BLOCK + 1, 2 * BLOCK:
         text = RandomJournal(total, total).text()
-        journal = picture.Journal(text.encode())
+        journal = picture.Journal(text)
         open_page(browser, text, work / "edges.html")
         count.run(f"sketches of {total} steps", lambda: check_sketches(text, journal))
         count.run(f"data of {total} steps", lambda: check_data(browser, journal))
@@ -912,14 +889,14 @@ BURST = "chanhub journal 1\nprocs 2\n0 make 100\n" + "".join(f"0 send 1 {n}\n" f
 
 def check_burst(browser, count, work):
     """Values that lie in a port for a block and more, so that one end is out of view; the last ten stay there."""
-    journal = picture.Journal(BURST.encode())
+    journal = picture.Journal(BURST)
     open_page(browser, BURST, work / "burst.html")
 
     def test(first):
         drawn, at = drawn_at(browser, journal, first, 40)
         check_shapes(drawn, journal, *at)
 
-    for first in range(0, len(journal.lines) - 40, 30):
+    for first in range(0, len(journal.entries) - 40, 30):
         count.run(f"a burst, 40 steps from {first + 1} on", lambda: test(first))
     partners = browser.value("page.journal.stepsOf(1, 101).map((step) => step.partner && step.partner.place)")
     count.test("the other ends of values", partners == [*range(101, 191), *[None] * 10], partners)
@@ -949,7 +926,7 @@ WORKERS = "chanhub journal 2\nprocs 4\n0 make 2\n0 make 0\n0 make 0\n3 recv 3\n"
 
 def check_notices(browser, count, work):
     """Each of these wrong data makes the shapes of some window differ from those expected."""
-    path, text, journal = work / "wrong.html", page_of(WORKERS), picture.Journal(WORKERS.encode())
+    path, text, journal = work / "wrong.html", page_of(WORKERS), picture.Journal(WORKERS)
     begin = text.index("<!--") + len("<!--")
     end = text.index("-->", begin)
 
@@ -957,7 +934,7 @@ def check_notices(browser, count, work):
         path.write_text(text[:begin] + data + text[end:])
         browser.open(path)
         try:
-            for first in 0, 40, 2 * BLOCK, 170, len(journal.lines) - 60:
+            for first in 0, 40, 2 * BLOCK, 170, len(journal.entries) - 60:
                 drawn, at = drawn_at(browser, journal, first, 60)
                 check_shapes(drawn, journal, *at)
         except AssertionError:
@@ -985,12 +962,8 @@ def some(rows):
     return rows[:: len(rows) // 40 + 1] + rows[-1:]
 
 
-def is_trouble(end):
-    return end == "stalled" or end.startswith("fault") or end.endswith(" closed")
-
-
 def lane_of(journal, one):
-    return min(int(one.line.split()[0]), journal.procs)
+    return min(one.pid, journal.procs)
 
 
 def blocks_of(count):
@@ -1005,14 +978,14 @@ def sketch_of(journal, asked, first, until):
     """The sketch of these steps, counted step by step."""
     lanes = [[0] * 4 for _ in range(journal.procs + 1)]
     for one in asked:
-        by, own = one.ended.by if one.ended else len(asked), lanes[lane_of(journal, one)]
+        by, own = one.by if one.end else len(asked), lanes[lane_of(journal, one)]
         own[0] += max(0, min(by, until) - max(one.place, first))
         own[1] += first <= one.place < until
-        own[2] += first <= by < until and is_trouble(words_of(one))
+        own[2] += first <= by < until and one.is_trouble
         own[3] += until - one.place if one.place < until <= by and one.place < by else 0
     text = "~" + "".join(f"P{lane}" + counted("wato", own) for lane, own in enumerate(lanes) if any(own))
     for port in sorted({*journal.moved["s"], *journal.moved["r"]}):
-        sent, received = ([by for _, by, _ in journal.moved[side][port]] for side in "sr")
+        sent, received = ([one.by for one in journal.moved[side][port]] for side in "sr")
         steps = {by for by in [*sent, *received] if first <= by < until}
         held = [sum(by <= step for by in sent) - sum(by <= step for by in received) for step in steps]
         numbers = [max(held, default=0), *(sum(first <= by < until for by in way) for way in (sent, received))]
@@ -1022,11 +995,11 @@ def sketch_of(journal, asked, first, until):
 
 def most_held(journal, port, first, until):
     """The most that a port held after one of these steps, or before them."""
-    return max((level.count for level in journal.levels() if level.port == port and level.first < until and (level.until is None or level.until >= first)), default=0)
+    return max((level.count for level in journal.held() if level.port == port and level.first < until and (level.until is None or level.until >= first)), default=0)
 
 
 def check_sketches(text, journal):
-    asked = journal.asked()
+    asked = journal.entries
     told, blocks = [line for line in data_of(text).splitlines() if line.startswith("~")], blocks_of(len(asked))
     assert len(told) == len(blocks), f"so many sketches: {len(told)}"
     for line, (first, until) in zip(told, blocks):
@@ -1036,35 +1009,35 @@ def check_sketches(text, journal):
 
 def check_data(browser, journal):
     """What the page sums up: before each block, and of the whole."""
-    asked, count = journal.asked(), len(journal.lines)
+    asked, count = journal.entries, len(journal.entries)
     tables, whole = ["waited", "asked", "troubles", "open", "sent", "got", "most"], ["rooms", "lives", "stalls", "waits", "asks"]
     told = browser.value("Object.fromEntries(%s.map((name) => [name, [...page.journal[name]]]))" % json.dumps([*tables, *whole]))
-    lanes, width = journal.procs + 1, 1 + sum(words_of(one).startswith("made") for one in asked)
+    lanes, width = journal.procs + 1, len(journal.ports)
     for at, until in some(list(enumerate([0, *(until for _, until in blocks_of(count))]))):
         wanted = {name: [0] * lanes for name in tables[:3]} | {"open": [NEVER] * lanes}
         for one in asked:
-            by, lane = one.ended.by if one.ended else count, lane_of(journal, one)
+            by, lane = one.by if one.end else count, lane_of(journal, one)
             wanted["asked"][lane] += one.place < until
             wanted["waited"][lane] += max(0, min(by, until) - one.place)
-            wanted["troubles"][lane] += by < until and is_trouble(words_of(one))
+            wanted["troubles"][lane] += by < until and one.is_trouble
             if one.place < until <= by and one.place < by:
                 wanted["open"][lane] = one.place
         for name, side in (("sent", "s"), ("got", "r")):
-            wanted[name] = [sum(by < until for _, by, _ in journal.moved[side][port]) for port in range(width)]
+            wanted[name] = [sum(one.by < until for one in journal.moved[side][port]) for port in range(width)]
         for name, counts in wanted.items():
             assert told[name][at * len(counts) : (at + 1) * len(counts)] == counts, f"{name} before step {until + 1}: {counts}"
-    held_in = {level.port for level in journal.levels()}
+    held_in = {level.port for level in journal.held()}
     for port in held_in:
         for at, (first, until) in some(list(enumerate(blocks_of(count)))):
             most = most_held(journal, port, first, until)
             assert told["most"][(at + 1) * width + port] == most, f"port {port} from step {first + 1} on: {most}"
-    assert told["rooms"] == [journal.room[port] if port in held_in else 0 for port in range(1, width)], told["rooms"]
+    assert told["rooms"] == [journal.ports[port].room if port in held_in else 0 for port in range(1, width)], told["rooms"]
     lives = [[[life["begun"], life["exited"]] for life in own] for own in told["lives"]]
     assert lives[: journal.procs] == [journal.lives[pid] for pid in range(journal.procs)], lives
-    assert told["stalls"] == sorted({by for by, _, _ in journal.stalls}), told["stalls"]
+    assert told["stalls"] == [*journal.vain], told["stalls"]
     waits, asks = collections.Counter(), collections.Counter(lane_of(journal, one) for one in asked)
     for one in asked:
-        waits[lane_of(journal, one)] += (one.ended.by if one.ended else count - 1) - one.place
+        waits[lane_of(journal, one)] += one.waited(count)
     shown = range(lanes if asks[journal.procs] else journal.procs)
     assert told["waits"] == [waits[lane] for lane in shown], told["waits"]
     assert told["asks"] == [asks[lane] for lane in shown], told["asks"]
@@ -1072,27 +1045,27 @@ def check_data(browser, journal):
 
 def check_overview(text, journal):
     """The bars of tools/overview.py, counted step by step."""
-    data, asked = overview.Overview(text.splitlines()), journal.asked()
+    data, asked = overview.Overview(text.splitlines()), journal.entries
     drawn = "\n".join(overview.drawing(data))
     blocks, x = blocks_of(len(asked)), lambda place: overview.LEFT + overview.WIDTH * place / len(asked)
-    for kind, count in ("waited", lambda one, first, until: max(0, min(one.ended.by if one.ended else len(asked), until) - max(one.place, first))), (
+    for kind, count in ("waited", lambda one, first, until: max(0, min(one.by if one.end else len(asked), until) - max(one.place, first))), (
             "asked", lambda one, first, until: first <= one.place < until):
         paths = re.findall(f'<path class="{kind}" d="([^"]*)">', drawn)
         assert len(paths) == journal.procs, f"{len(paths)} lanes"
         for pid, path in enumerate(paths):
-            own, floor = [one for one in asked if int(one.line.split()[0]) == pid], overview.TOP + (pid + 1) * overview.LANE
+            own, floor = [one for one in asked if one.pid == pid], overview.TOP + (pid + 1) * overview.LANE
             shares = [(first, until, sum(count(one, first, until) for one in own) / (until - first)) for first, until in blocks]
             wanted = [(x(first), floor - share * (overview.LANE - 4), x(until)) for first, until, share in shares if share]
             agree(f"{kind} bar of P{pid}", [tuple(map(float, bar)) for bar in re.findall(r"M([\d.]+),\d+V([\d.]+)H([\d.]+)V", path)], wanted, 0.06)
-    ports = sorted({level.port for level in journal.levels()})
+    ports = sorted({level.port for level in journal.held()})
     paths = re.findall('<path class="held" d="([^"]*)">', drawn)
     assert len(paths) == len(ports), f"{len(paths)} ports"
     for row, (port, path) in enumerate(zip(ports, paths), 1):
-        floor, shares = overview.TOP + journal.procs * overview.LANE + row * overview.STRIP, [most_held(journal, port, *block) / journal.room[port] for block in blocks]
+        floor, shares = overview.TOP + journal.procs * overview.LANE + row * overview.STRIP, [most_held(journal, port, *block) / journal.ports[port].room for block in blocks]
         wanted = [(x(first), floor - share * (overview.STRIP - 8), x(until)) for (first, until), share in zip(blocks, shares) if share]
         agree(f"bar of port {port}", [tuple(map(float, bar)) for bar in re.findall(r"M([\d.]+),\d+V([\d.]+)H([\d.]+)V", path)], wanted, 0.06)
     stalls = [float(at) for at in re.findall(r'class="stall" d="M([\d.]+),', drawn)]
-    agree("stall", [(at,) for at in stalls], [(x(by),) for by in sorted({by for by, _, _ in journal.stalls})], 0.06)
+    agree("stall", [(at,) for at in stalls], [(x(by),) for by in journal.vain], 0.06)
 
 
 def check_bytes(count, work):
@@ -1112,24 +1085,23 @@ def found(browser, *several):
 
 
 def check_search(browser, journal):
-    asked = journal.asked()
-    port_of = lambda one: {int(port) for _, port in one.cases} | ({int(one.line.split()[2])} if one.line.split()[1] in ("close", "reopen") else set()) | ({int(words_of(one)[5:])} if words_of(one).startswith("made") else set())
+    asked = journal.entries
+    ports_of = lambda one: {case[1] for case in one.cases} | {picture.port_of(one)} | {int(it) for it in one.line.split()[2:3] if one.word in ("close", "reopen")}
     values = [value_of(one) for one in asked if value_of(one)]
     value = values[len(values) // 2] if values else "17"
-    stalling = {by for by, _, _ in journal.stalls}
     queries = {
-        "P1": lambda one: int(one.line.split()[0]) == 1,
-        "port 2": lambda one: 2 in port_of(one),
+        "P1": lambda one: one.pid == 1,
+        "port 2": lambda one: 2 in ports_of(one),
         "=" + value: lambda one: value_of(one) == value,
-        "stalled": lambda one: words_of(one) == "stalled",
-        "deadlocks": lambda one: one.place in stalling,
-        "P1 before 60": lambda one: int(one.line.split()[0]) == 1 and one.place < 59,
-        "cancelled": lambda one: words_of(one) == "cancelled",
+        "stalled": lambda one: one.end == "stalled",
+        "deadlocks": lambda one: one.place in journal.vain,
+        "P1 before 60": lambda one: one.pid == 1 and one.place < 59,
+        "cancelled": lambda one: one.end == "cancelled",
         "step 60": lambda one: one.place == 59,
-        "waited": lambda one: one.ended is None or one.ended.by > one.place,
-        "waited >20": lambda one: (one.ended.by if one.ended else len(asked) - 1) - one.place > 20,
-        "to the end": lambda one: one.ended is None,
-        "P0 port 1": lambda one: int(one.line.split()[0]) == 0 and 1 in port_of(one),
+        "waited": lambda one: one.end is None or one.by > one.place,
+        "waited >20": lambda one: one.waited(len(asked)) > 20,
+        "to the end": lambda one: one.end is None,
+        "P0 port 1": lambda one: one.pid == 0 and 1 in ports_of(one),
         "select": lambda one: one.line.split()[1] == "select",
     }
     for (words, test), told in zip(queries.items(), found(browser, *queries, "")):
@@ -1149,18 +1121,18 @@ def check_ways(browser, journal):
 
 def check_panel(browser, journal, draw):
     """What the panel says of stalls, of the steps before one, and of the steps of its process; and the longest waits."""
-    asked, stalls = journal.asked(), sorted({by for by, _, _ in journal.stalls})
+    asked, stalls = journal.entries, [*journal.vain]
     rows, cells = list(waits_told(journal))[:5], texts(browser, "#longest td")
     assert cells == sum(rows, []), f"{cells} and not {rows}"
     for place in [*stalls[:2], *stalls[-2:], *(draw(len(asked)) for _ in range(6))]:
         check_deadlock(browser, journal, place)
-        wanted = [f"{one.place + 1} {one.line} {answer_of(one) if one.ended and one.ended.by < place else 'waits'}"
+        wanted = [f"{one.place + 1} {one.line} {answer_of(one) if one.end and one.by < place else 'waits'}"
             for one in asked[max(0, place - 6) : place]]
         told = texts(browser, "#before li")
         assert told == wanted, f"before step {place + 1}: {told} and not {wanted}"
         before, behind = (f"step {at + 1}" if at is not None else "none" for at in own_steps(journal, place))
         told = texts(browser, "#process")
-        wanted = [f"P{pid_at(journal, place)}: {before} before, {behind} after"]
+        wanted = [f"P{asked[place].pid}: {before} before, {behind} after"]
         assert told == wanted, f"steps of the process of step {place + 1}: {told} and not {wanted}"
     browser.value("page.choose(null)")
 
@@ -1174,7 +1146,7 @@ LOCKS = "chanhub journal 2\nprocs 3\n0 make 1\n0 make 1\n0 make 5\n" + "".join(
 
 def check_waits(browser, count, path):
     """The longest waits fit the panel; all that waited as long as the last are found."""
-    told = list(waits_told(picture.Journal(PIPE.encode())))
+    told = list(waits_told(picture.Journal(PIPE)))
     more = sum(wait[0] == told[4][0] for wait in told[5:])
     for width in 1400, 1000, 700:
         browser.ask("Emulation.setDeviceMetricsOverride", width=width, height=HEIGHT, deviceScaleFactor=1, mobile=False)
@@ -1216,7 +1188,7 @@ def at(browser, step, lane):
 def check_rows(browser, count, work, row):
     """A page of tests/pages.toml."""
     text = {"pipe": PIPE, "locks": LOCKS, "left": picture.LEFT}.get(row["journal"], row["journal"])
-    path, journal = work / "rows.html", picture.Journal(text.encode())
+    path, journal = work / "rows.html", picture.Journal(text)
     open_page(browser, text, path)
     for verb, *words in row["steps"]:
         if verb == "is":
@@ -1368,21 +1340,18 @@ def check_strip(browser, count, steps):
 
 
 def check_stall_marks(browser, count, work):
-    journal = picture.Journal(WORKERS.encode())
+    journal = picture.Journal(WORKERS)
     open_page(browser, WORKERS, work / "workers.html")
     browser.value("window.drawn = []; page.layOut()")
     calls = [Call(*call) for call in browser.value("window.drawn") if call[0] == "strip" and call[1] == "fillRect" and call[2][1] == 16]
-    stalls = collections.defaultdict(list)
-    for by, pid, _ in journal.stalls:
-        stalls[by].append(f"P{pid}")
-    wanted = [float(by * WIDTH // len(journal.lines)) for by in stalls]
+    wanted = [float(by * WIDTH // len(journal.entries)) for by in journal.vain]
     count.test("the strip marks stalls", close([call.words[0] for call in calls], wanted), (calls, wanted))
     told = browser.value("[...document.querySelectorAll('#whole li')].map((one) => one.textContent)")
-    wanted = [f"step {by + 1} stalls {', '.join(pids)}" for by, pids in stalls.items()]
+    wanted = [f"step {by + 1} stalls {', '.join(f'P{one.pid}' for one in journal.stalled if one.by == by)}" for by in journal.vain]
     count.test("the panel tells whom they stall", told == wanted, (told, wanted))
-    by, _, asked = journal.stalls[0]
-    browser.value(f"page.choose({asked})")
-    told, wanted = texts(browser, "#waited"), [f"{by - asked} steps; ended by the deadlock at step {by + 1}"]
+    one = journal.stalled[0]
+    browser.value(f"page.choose({one.place})")
+    told, wanted = texts(browser, "#waited"), [f"{one.by - one.place} steps; ended by the deadlock at step {one.by + 1}"]
     count.test("a deadlock ends a wait, and not who waited last", told == wanted, (told, wanted))
 
 
@@ -1423,7 +1392,7 @@ def main():
         for check in check_waits, check_contrasts:
             count.run(check.__name__, lambda: check(browser, count, path))
         count.run("stalls in the strip", lambda: check_stall_marks(browser, count, work))
-        for row in tomllib.loads((ROOT / "tests" / "pages.toml").read_text())["page"]:
+        for row in table("pages")["page"]:
             count.run(row["name"], lambda: check_rows(browser, count, work, row))
         count.run("bytes that HTML would take for its own", lambda: check_nasty(browser, count, work))
         count.run("bytes a step", lambda: check_bytes(count, work))

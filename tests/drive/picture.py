@@ -22,16 +22,14 @@ import tempfile
 import xml.etree.ElementTree as xml
 
 sys.dont_write_bytecode = True
-ROOT = pathlib.Path(__file__).resolve().parents[2]
-sys.path[:0] = [str(ROOT / it) for it in ("tools", "tools/gate")]
-import model
-import random_journal
-from counting import Count
+from programs import JOURNALS, MINUTE as WAIT, ROOT, Count, examples
 from refusals import Refuser
+import random_journal
+import walk
 
 SVG = "{http://www.w3.org/2000/svg}"
-# after so many seconds a program is taken to hang; and a browser, or what is long, on a slow machine
-WAIT, LONG = 60, 600
+# after so many seconds a browser, or what is long, is taken to hang on a slow machine
+LONG = 600
 RANDOM = 200
 # of these by windows too
 WINDOWED = 50
@@ -41,8 +39,6 @@ FULL = 12
 TOP, STRIP, HUES = 90, 18, 8
 SIZES = {14: (58, 36, 40), 36: (42, 20, 16), 60: (30, 14, 10)}
 
-Asked = collections.namedtuple("Asked", "place line cases ended")
-Told = collections.namedtuple("Told", "by event")
 Held = collections.namedtuple("Held", "port first until count")
 
 
@@ -53,88 +49,38 @@ def output_of(words, given=b"", wait=WAIT):
 # ---- what a journal asks, and what the model tells of it
 
 
-def case_of(text):
-    return text[0], text[1:].split(":")[0]
-
-
-def cases_of(line):
-    """The sides and ports of the cases of an entry."""
-    fields = line.split()
-    if fields[1] in ("send", "recv"):
-        return [(fields[1][0], fields[2])]
-    return [case_of(text) for text in fields[3:] if text != "default"] if fields[1] == "select" else []
-
-
-class Journal:
-    """Each entry with how it ended, by the events of the model."""
+class Journal(walk.Journal):
+    """A journal, with what a picture tells of it."""
 
     def __init__(self, text):
-        self.procs = int(text.decode().splitlines()[1].split()[1])
-        self.lines = text.decode().splitlines()[2:]
-        self.ended = {}
-        self.lives = {pid: [[None, None]] for pid in range(self.procs)}
-        self.room = {}
-        self.reopened = collections.defaultdict(list)
-        self.stalls = []
+        self.lives, self.stalled, self.vain = collections.defaultdict(lambda: [[None, None]]), [], {}  # who waits in vain, by step
         self.moved = {"s": collections.defaultdict(list), "r": collections.defaultdict(list)}
-        events = model.events_of(text.decode())
-        waiting = {}
-        for place, line in enumerate(self.lines):
-            pid = line.split()[0]
-            self.tell(place, place, events.pop(0), waiting)
-            # an event of a process that waits is no answer unless it is a fault, so it ends the call
-            while events and events[0].split()[0] in waiting and events[0].split()[1] != "fault":
-                self.tell(waiting[events[0].split()[0]], place, events.pop(0), waiting)
-        assert not events, "the model tells more than the journal asks"
+        super().__init__(text)
+        self.left_waiting = [wait._replace(whom=None) for wait in self.waits(self.waiting.values())]
 
-    def tell(self, asked, by, event, waiting):
-        pid, what = event.split(" ", 1)
-        if what == "parked":
-            waiting[pid] = asked
-            return
-        if waiting.get(pid) == asked:
-            del waiting[pid]
-        self.ended[asked] = Told(by, event)
-        if what == "stalled":
-            self.stalls.append((by, int(pid), asked))
-        fields = self.lines[asked].split()
-        if what.startswith("made "):
-            self.room[int(what.split()[1])] = int(fields[2])
-        if what == "done" and fields[1] == "exit":
-            self.lives[int(pid)][-1][1] = by
-        if what == "done" and fields[1] == "start":
-            self.lives[int(fields[2])].append([by, None])
-        if what == "done" and fields[1] == "reopen":
-            self.reopened[int(fields[2])].append(by)
-            self.room[int(fields[2])] = max(self.room[int(fields[2])], int(fields[3]))
-        match = re.fullmatch(r"case (\d+) (sent|got .*)", what)
-        if match:
-            side, port = cases_of(self.lines[asked])[int(match[1])]
-            self.moved[side][int(port)].append((asked, by, event))
+    def take(self, entry, ended):
+        if (entry.word, entry.end) == ("exit", "done"):
+            self.lives[entry.pid][-1][1] = entry.place
+        if (entry.word, entry.end) == ("start", "done"):
+            self.lives[entry.asked].append([entry.place, None])
+        for other in filter(lambda other: other.move, ended):
+            self.moved[other.move.side][other.move.port].append(other)
+        stalled = [other for other in ended if other.end == "stalled"]
+        if stalled:
+            self.stalled += stalled
+            self.vain[entry.place] = list(self.waits(stalled))
 
-    def left(self, step=float("inf")):
-        """Who has left by then."""
-        now = {pid: [life for life in own if life[0] is None or life[0] <= step][-1] for pid, own in self.lives.items()}
-        return {pid for pid, (_, exited) in now.items() if exited is not None and exited <= step}
-
-    def levels(self):
+    def held(self):
         """For each port that has room, in order, its values from each step at which one moves until the next such step."""
-        for port in filter(self.room.get, self.room):
-            ways = [sorted(by for _, by, _ in self.moved[side][port]) for side in "sr"]
-            steps = sorted(set(ways[0] + ways[1]))
-            for step, until in zip(steps, [*steps[1:], None]):
-                sent, received = (sum(by <= step for by in way) for way in ways)
-                if received < sent:
-                    yield Held(port, step, until, sent - received)
-
-    def asked(self):
-        return [Asked(place, line, cases_of(line), self.ended.get(place)) for place, line in enumerate(self.lines)]
+        for number, port in enumerate(self.ports):
+            after = self.levels[number]
+            for (step, count), until in zip(after.items(), [*list(after)[1:], None]):
+                if port.room and count:
+                    yield Held(number, step, until, count)
 
     def passages(self):
-        """For each port the k-th value that was sent, beside the k-th that was received."""
-        for port in sorted(self.moved["s"]):
-            for sent, received in zip(self.moved["s"][port], self.moved["r"][port]):
-                yield port, sent, received
+        """For each port the sends of the values that were received."""
+        return [sent for port in sorted(self.moved["s"]) for sent in self.moved["s"][port] if sent.partner]
 
 
 # ---- what a picture of some steps has to show
@@ -168,138 +114,109 @@ class Bands:
         return range(self.band(max(since, self.first)), self.band(min(until, self.end - 1)) + 1)
 
 
-def title_of(asked):
-    end = "waits" if asked.ended is None else f"{asked.ended.event}\nby step {asked.ended.by + 1}"
-    return f"step {asked.place + 1}\n{asked.line}\n{end}\n"
+def title_of(entry):
+    end = "waits" if entry.end is None else f"{entry.pid} {entry.end}\nby step {entry.by + 1}"
+    return f"step {entry.place + 1}\n{entry.line}\n{end}\n"
 
 
-def moved_title(moved):
-    asked, by, event = moved
-    return f"{event}\nasked at step {asked + 1} by step {by + 1}\n"
+def moved_title(entry):
+    return f"{entry.pid} {entry.end}\nasked at step {entry.place + 1} by step {entry.by + 1}\n"
 
 
 def boxes(journal, bands):
-    return [(bands.band(asked.place), title_of(asked)) for asked in journal.asked() if bands.has(asked.place)]
+    return [(bands.band(entry.place), title_of(entry)) for entry in journal.entries[bands.first : bands.end]]
 
 
 def bars(journal, bands):
-    for asked in journal.asked():
-        until = bands.end if asked.ended is None else asked.ended.by
-        if asked.place < until:
-            for band in bands.between(asked.place, until):
-                yield band, title_of(asked)
+    for entry in journal.entries:
+        until = bands.end if entry.end is None else entry.by
+        if entry.place < until:
+            for band in bands.between(entry.place, until):
+                yield band, title_of(entry)
 
 
 def arrows(journal, bands):
-    for port, sent, received in journal.passages():
-        for band in sorted({bands.band(by) for by in (sent[1], received[1]) if bands.has(by)}):
-            yield band, f"port {port} from\n{moved_title(sent)}to\n{moved_title(received)}"
+    for sent in journal.passages():
+        for band in sorted({bands.band(by) for by in (sent.by, sent.partner.by) if bands.has(by)}):
+            yield band, f"port {sent.move.port} from\n{moved_title(sent)}to\n{moved_title(sent.partner)}"
 
 
 def shown_ports(journal, bands):
     """The ports that hold a value in the window, each of which has a strip."""
-    held = {held.port for held in journal.levels() if bands.between(held.first, bands.end if held.until is None else held.until)}
-    return [port for port in journal.room if port in held]
+    return sorted({held.port for held in journal.held() if bands.between(held.first, bands.end if held.until is None else held.until)})
 
 
 def strips(journal, bands):
     for band in range(bands.count):
         for port in shown_ports(journal, bands):
-            yield band, f"port {port} has room for {journal.room[port]}\n"
+            yield band, f"port {port} has room for {journal.ports[port].room}\n"
 
 
 def levels(journal, bands):
-    for held in journal.levels():
+    for held in journal.held():
         until = "on" if held.until is None else f"until step {held.until + 1}"
-        title = f"port {held.port} holds {held.count} of {journal.room[held.port]} from step {held.first + 1} {until}\n"
+        title = f"port {held.port} holds {held.count} of {journal.ports[held.port].room} from step {held.first + 1} {until}\n"
         for band in bands.between(held.first, bands.end if held.until is None else held.until):
             yield band, title
 
 
-def shown_case(line, cases, end):
-    """The side and the port of the case that fired, or of the only one; none for a select of which none fired."""
-    if end.startswith("case"):
-        return cases[int(end.split()[1])]
-    return cases[0] if len(cases) == 1 and not end.startswith(("default", "fault")) else None
+def shown_case(entry):
+    """The case that fired, or the only one; none for a select of which none fired."""
+    if entry.fired or len(entry.cases) != 1:
+        return entry.fired
+    return None if (entry.end or "").startswith(("default", "fault")) else entry.cases[0]
 
 
 def is_side(side):
-    return lambda line, cases, end: (shown_case(line, cases, end) or " ")[0] == side
+    return lambda entry, end: (shown_case(entry) or " ")[0] == side
 
 
-# what the legend tells, and of which entries, by their lines and their ends
+def is_done(word):
+    return lambda entry, end: (entry.word, end) == (word, "done")
+
+
+# what the legend tells, and of which entries, by them and by their ends
 MARKS = {
     "sends": is_side("s"),
     "receives": is_side("r"),
-    "makes a port": lambda line, cases, end: end.startswith("made"),
-    "closes a port": lambda line, cases, end: line[1] == "close" and end == "done",
-    "reopens a port": lambda line, cases, end: line[1] == "reopen" and end == "done",
-    "no case fired": lambda line, cases, end: line[1] == "select"
-    and len(cases) != 1
-    and end.split(" ")[0] not in ("case", "default", "fault"),
-    "default taken": lambda line, cases, end: end == "default",
-    "cancels a call": lambda line, cases, end: line[1] == "cancel" and end == "done",
-    "starts a process": lambda line, cases, end: line[1] == "start" and end == "done",
-    "refused: fault 3": lambda line, cases, end: end.startswith("fault"),
-    "still waits": lambda line, cases, end: end == "",
-    "closed and empty": lambda line, cases, end: end.endswith("drained"),
-    "was cancelled": lambda line, cases, end: end == "cancelled",
-    "stalls or fails": lambda line, cases, end: end == "stalled" or end.endswith("closed"),
+    "makes a port": lambda entry, end: end.startswith("made"),
+    "closes a port": is_done("close"),
+    "reopens a port": is_done("reopen"),
+    "no case fired": lambda entry, end: entry.word == "call" and len(entry.cases) != 1 and end.split(" ")[0] not in ("case", "default", "fault"),
+    "default taken": lambda entry, end: end == "default",
+    "cancels a call": is_done("cancel"),
+    "starts a process": is_done("start"),
+    "refused: fault 3": lambda entry, end: end.startswith("fault"),
+    "still waits": lambda entry, end: end == "",
+    "closed and empty": lambda entry, end: end.endswith("drained"),
+    "was cancelled": lambda entry, end: end == "cancelled",
+    "stalls or fails": lambda entry, end: end == "stalled" or end.endswith("closed"),
 }
 
 
-def mover(moved, step):
-    """Who moved the last of these values by this step, and by which step."""
-    return next(((int(event.split()[0]), by) for _, by, event in reversed(moved) if by <= step), None)
-
-
-def mover_words(moved):
-    return f"P{moved[0]} at step {moved[1] + 1}" if moved else "nobody"
-
-
-def whom(journal, step, case, own, sender, receiver):
-    """For whom a case may wait, of those whom the same step stalled too, unless that one waits on the same side of the port: a receive
-    for the last sender, or else for the last receiver; a send the other way round."""
-    stalled = {pid: cases_of(journal.lines[asked]) for by, pid, asked in journal.stalls if by == step and pid != own}
-    movers = (sender, receiver) if case[0] == "r" else (receiver, sender)
-    others = [moved[0] for moved in movers if moved and moved[0] in stalled and case not in stalled[moved[0]]]
-    return others[0] if others else None
+def mover_words(mover):
+    return f"P{mover.pid} at step {mover.by + 1}" if mover else "nobody"
 
 
 def waits(journal, bands):
-    """A row for each case of those who wait in vain, and whom it waits for at which step."""
-    for step, asked in vain(journal, bands):
-        for side, port in cases_of(journal.lines[asked]):
-            aim = "send on" if side == "s" else "receive from"
-            moved = [mover(journal.moved[way][int(port)], step) for way in "sr"]
-            pid = int(journal.lines[asked].split()[0])
-            other = whom(journal, step, (side, port), pid, *moved)
-            opened = max((by for by in journal.reopened[int(port)] if by <= step), default=-1)
-            receivers = {int(event.split()[0]) for _, by, event in journal.moved["r"][int(port)] if opened < by <= step}
-            gone = side == "s" and set() < receivers <= journal.left(step)
-            row = (
-                f"P{pid} has waited since step {asked + 1} to {aim} port {port}; "
-                f"last sent there by {mover_words(moved[0])}, last received by {mover_words(moved[1])}"
-                f"{'; all who received there have left' if gone else ''}. "
-            )
-            yield row + ("" if other is None else f"Perhaps it waits for P{other}. "), step, pid, other
-
-
-def vain(journal, bands):
-    """Whoever the last step that stalls anyone stalls, and whoever waits in the end, where that is shown: by step and call."""
-    stalled = [(by, asked) for by, _, asked in journal.stalls if bands.has(by)]
-    rows = [(by, asked) for by, asked in stalled if by == stalled[-1][0]]
-    if bands.end >= len(journal.lines):
-        rows += [(bands.end, asked.place) for asked in journal.asked() if asked.ended is None]
-    return rows
+    """A row for each case of those whom the last step that stalls anyone stalls, and of those who wait in the end, where that is shown; and
+    at which step."""
+    stalls = [by for by in journal.vain if bands.has(by)]
+    rows = [(stalls[-1], wait) for wait in journal.vain[stalls[-1]]] if stalls else []
+    rows += [(bands.end, wait) for wait in journal.left_waiting] if bands.end >= len(journal.entries) else []
+    for step, wait in rows:
+        yield (
+            f"P{wait.entry.pid} has waited since step {wait.entry.place + 1} to {'send on' if wait.side == 's' else 'receive from'} port {wait.port}; "
+            f"last sent there by {mover_words(wait.sender)}, last received by {mover_words(wait.receiver)}"
+            f"{'; all who received there have left' if wait.is_left else ''}. "
+        ) + ("" if wait.whom is None else f"Perhaps it waits for P{wait.whom}. "), step, wait.entry.pid, wait.whom
 
 
 def outside(journal, bands):
     """A row for each process that is there in the end and does not wait, where calls wait then, and that is shown."""
-    waiting = {int(asked.line.split()[0]) for asked in journal.asked() if asked.ended is None}
-    last = {int(line.split()[0]): f"last at step {place + 1}" for place, line in enumerate(journal.lines)}
-    if waiting and bands.end >= len(journal.lines):
-        for pid in sorted({*range(journal.procs)} - waiting - journal.left()):
+    last = {entry.pid: f"last at step {entry.place + 1}" for entry in journal.entries}
+    if journal.waiting and bands.end >= len(journal.entries):
+        for pid in sorted({*range(journal.procs)} - {*journal.waiting, *journal.exits}):
             yield f"P{pid} is outside the hub, {last.get(pid, 'never called')}."
 
 
@@ -312,14 +229,11 @@ def whoms(journal, bands):
 
 def legend(journal, bands):
     """What the legend has to tell, in order."""
-    shown = [asked for asked in journal.asked() if bands.has(asked.place)]
-    for words, holds in MARKS.items():
-        ends = ((asked, asked.ended.event.split(" ", 1)[1] if asked.ended else "") for asked in shown)
-        if any(holds(asked.line.split(), asked.cases, end) for asked, end in ends):
-            yield words
+    shown = journal.entries[bands.first : bands.end]
+    yield from (words for words, holds in MARKS.items() if any(holds(entry, entry.end or "") for entry in shown))
     if any(bars(journal, bands)):
         yield "waits, then ends"
-    if any(sent[1] < bands.end and bands.first <= received[1] for _, sent, received in journal.passages()):
+    if any(sent.by < bands.end and bands.first <= sent.partner.by for sent in journal.passages()):
         yield "value on its way"
     if any(stalls(journal, bands)):
         yield "deadlock"
@@ -328,9 +242,9 @@ def legend(journal, bands):
 
 
 def stalls(journal, bands):
-    for by, pid, asked in journal.stalls:
-        if bands.has(by):
-            yield bands.band(by), f"step {by + 1} stalls process {pid}, which has waited since step {asked + 1}\n"
+    for entry in journal.stalled:
+        if bands.has(entry.by):
+            yield bands.band(entry.by), f"step {entry.by + 1} stalls process {entry.pid}, which has waited since step {entry.place + 1}\n"
 
 
 # ---- what it shows
@@ -417,14 +331,14 @@ def levels_agree(root, journal, bands):
         assert floor - full == FULL, title
     wanted = by_band(
         (band, held)
-        for held in journal.levels()
+        for held in journal.held()
         for band in bands.between(held.first, bands.end if held.until is None else held.until)
     )
     for (group, title), (band, held) in zip(shapes(root, "level"), wanted):
         left, right, floor = strips[band, held.port]
         rect = group.find(SVG + "rect")
         ends = [column(place, band, bands, columns, (left, right)) for place in (held.first, held.until)]
-        height = -(-held.count * FULL // journal.room[held.port])
+        height = -(-held.count * FULL // journal.ports[held.port].room)
         shown = [number(rect, name) for name in ("x", "width", "y", "height")]
         assert shown == [ends[0], ends[1] - ends[0], floor - height, height], title
         stays = [text.text for text in group.iter(SVG + "text")]
@@ -465,26 +379,32 @@ def whoms_agree(root, wanted, journal, bands):
         assert numbers(group.find(SVG + "path")) == [x, y, far, y, far, to, x, to], title
 
 
+def port_of(entry):
+    """The port whose mark its box has, if it has one."""
+    end, case = entry.end or "", shown_case(entry)
+    if end.startswith("fault"):
+        return None
+    if entry.word in ("close", "reopen"):
+        return int(entry.line.split()[2])
+    return case[1] if case else int(end.split()[1]) if end.startswith("made") else None
+
+
 def marks_agree(root, journal):
     """Each box of a port has its mark; a select shows the cases that it offered, and of these the one that fired."""
-    asked = journal.asked()
     for group, title in shapes(root, "box"):
-        entry = asked[int(title.split()[1]) - 1]
-        line, end = entry.line.split(), entry.ended.event.split(" ", 1)[1] if entry.ended else ""
-        case = shown_case(line, entry.cases, end) if entry.cases else None
-        port = case[1] if case else end.split()[1] if end.startswith("made") else line[2] if line[1] in ("close", "reopen") else None
-        port = None if end.startswith("fault") else port
+        entry = journal.entries[int(title.split()[1]) - 1]
+        port = port_of(entry)
         marks = [mark.get("href") for mark in group.findall(SVG + "use")]
-        assert marks == ([] if port is None else [f"#k{int(port) % HUES}"]), f"{title}: {marks}"
+        assert marks == ([] if port is None else [f"#k{port % HUES}"]), f"{title}: {marks}"
         offers = [text for text in group.findall(SVG + "text") if text.get("class") == "cases"]
         if root.get("class") != "wide" or len(entry.cases) < 2:
             assert not offers, title
             continue
         told = "".join(offers[0].itertext()).split()
-        cases = [side + port for side, port in entry.cases]
+        cases = [f"{case[0]}{case[1]}" for case in entry.cases]
         assert told == (cases if len(cases) <= 4 else [str(len(cases)), "cases"]), f"{title}: {told}"
         fired = [text.text for text in offers[0].iter(SVG + "tspan")]
-        assert fired == ([case[0] + case[1]] if end.startswith("case") and len(cases) <= 4 else []), f"{title}: {fired}"
+        assert fired == (["%s%d" % entry.fired[:2]] if entry.fired and len(cases) <= 4 else []), f"{title}: {fired}"
 
 
 def places_agree(root):
@@ -707,8 +627,8 @@ def check_left(count, program):
     """At the stall, and where calls wait in the end since process 3 does not exit."""
     for name, text in ("all who received have left", LEFT), ("they have left, and nobody is stalled", LEFT.removesuffix("3 exit\n")):
         check_journal(count, program, name, text.encode())
-        journal = Journal(text.encode())
-        told = [row for row, *_ in waits(journal, Bands(0, len(journal.lines))) if "have left" in row]
+        journal = Journal(text)
+        told = [row for row, *_ in waits(journal, Bands(0, len(journal.entries))) if "have left" in row]
         count.test(f"{name}: in one row", len(told) == 1 and told[0].startswith("P0 has waited since step 16 to send on port 1;"), told)
 
 
@@ -717,8 +637,8 @@ def check_left(count, program):
 
 def check_journal(count, program, name, text, by_windows=True):
     """The whole picture, and two windows of it."""
-    journal = Journal(text)
-    steps = len(journal.lines)
+    journal = Journal(text.decode())
+    steps = len(journal.entries)
     count.run(name, lambda: check_picture(output_of([program, "picture"], text), journal, 0, steps))
     below = random.Random(name).randrange
     for _ in range(2 if steps and by_windows else 0):
@@ -740,9 +660,8 @@ def check_document(count, program, path):
 def main():
     program = str(pathlib.Path(sys.argv[1]).resolve())
     count = Count()
-    examples = [path for path in sorted((ROOT / "examples" / "journals").iterdir()) if not path.suffix]
     documents = sorted((ROOT / "docs" / "pictures").glob("*.journal"))
-    for path in examples:
+    for path in examples(JOURNALS):
         check_journal(count, program, path.name, path.read_bytes())
     for seed, third in ((seed, third) for third in (False, True) for seed in range(1, RANDOM + 1)):
         text = random_journal.Journal(seed, 0, third).text().encode()
@@ -756,7 +675,7 @@ def main():
     check_growth(count, program)
     check_costs(count, program)
     if browser():
-        check_views(count, {path.name: output_of([program, "picture"], path.read_bytes()) for path in examples + documents})
+        check_views(count, {path.name: output_of([program, "picture"], path.read_bytes()) for path in examples(JOURNALS) + documents})
     else:
         count.skip("pictures in a browser, since there is no Chromium")
     return count.end()

@@ -19,11 +19,8 @@ import tempfile
 from concurrent.futures import ThreadPoolExecutor
 
 sys.dont_write_bytecode = True
-ROOT = pathlib.Path(__file__).resolve().parents[2]
-sys.path.insert(0, str(ROOT / 'tools/gate'))
-from counting import Count
+from programs import JOURNALS as EXAMPLES, ROOT, Count, said
 
-MINUTE = 60
 MOST_REFUSALS = 10000
 NO_MEMORY = 1, b'', b'chanhub: out of memory\n'
 # A test asks for so many bytes where its refusals begin.
@@ -65,8 +62,7 @@ class Refuser:
         with tempfile.TemporaryDirectory(dir=self.work) as room:
             trace = os.path.join(room, 'refused')
             refuses = {'LD_PRELOAD': self.library, which: str(number), 'REFUSE_AFTER': after, 'REFUSED': trace}
-            done = subprocess.run(words, input=given, capture_output=True, timeout=MINUTE, env={**os.environ, **refuses})
-            return (done.returncode, done.stdout, done.stderr), os.path.exists(trace)
+            return said(words, given, env={**os.environ, **refuses}), os.path.exists(trace)
 
     def each(self, words, **how):
         """What it does with the first refused, then with the second, and so on, and last where nothing was refused."""
@@ -78,8 +74,7 @@ class Refuser:
 
     def survives(self, words, given=b''):
         """Whether it does the same with each allocation refused in turn, or tells that memory is wanting and nothing else."""
-        done = subprocess.run(words, input=given, capture_output=True, timeout=MINUTE)
-        wanted = done.returncode, done.stdout, done.stderr
+        wanted = said(words, given)
         *answers, last = self.each(words, given=given)
         return answers != [] and last == wanted and all(it in (wanted, NO_MEMORY) for it in answers)
 
@@ -121,21 +116,20 @@ def pass_without(refuser, tests, name):
 
 def is_journal(program, lines, output):
     """Whether this is a journal that is replayed without a fault, and has these lines, process by process."""
-    events = subprocess.run([program, 'replay'], input=output, capture_output=True, timeout=MINUTE)
+    status, events, errors = said([program, 'replay'], output)
     by_process = sorted(output.decode().splitlines(), key=lambda line: int(line.split()[0]) if line[0].isdigit() else -1)
-    return by_process == lines and (events.returncode, events.stderr) == (0, b'') and b'fault' not in events.stdout
+    return by_process == lines and (status, errors) == (0, b'') and b'fault' not in events
 
 
 def replays(program):
     """By name, the words, how they are refused, and what is whole."""
-    examples = ROOT / 'examples' / 'journals'
-    for path in sorted(examples.glob('*.args')):
+    for path in sorted(EXAMPLES.glob('*.args')):
         journal = path.with_suffix('')
         events = journal.with_suffix('.stdout').read_bytes()
         yield f'replay {journal.name}', [program, 'replay'], events.__eq__, {'given': journal.read_bytes()}
     # The same with a third process, which does nothing.
-    text = (examples / 'waiting_on_several_ports').read_bytes().replace(b'\nprocs 2\n', b'\nprocs 3\n')
-    events = examples / 'waiting_on_several_ports.stdout'
+    text = (EXAMPLES / 'waiting_on_several_ports').read_bytes().replace(b'\nprocs 2\n', b'\nprocs 3\n')
+    events = EXAMPLES / 'waiting_on_several_ports.stdout'
     yield 'replay among three', [program, 'replay'], events.read_bytes().__eq__, {'given': text}
     yield 'verify', [program, 'verify', '/dev/stdin', events], b'same\n'.__eq__, {'given': text}
 

@@ -8,28 +8,18 @@ import resource
 import subprocess
 import sys
 import tempfile
-import tomllib
 
 sys.dont_write_bytecode = True
-ROOT = os.path.dirname(os.path.dirname(os.path.dirname(os.path.abspath(__file__))))
-sys.path[:0] = [os.path.join(ROOT, it) for it in ('tools/gate', 'tests/oracle')]
-from counting import Count
+import programs
+from programs import ROOT, count_checks, refused, said, table
 from theorems import theorems
 
 PROGRAM = os.path.abspath(sys.argv[1] if len(sys.argv) > 1 else os.path.join(ROOT, 'crates', 'chanhub', 'out', 'chanhub'))
 
 
-def table(name):
-    with open(os.path.join(ROOT, 'tests', name + '.toml'), 'rb') as file:
-        return tomllib.load(file)
-
-
 def run(words, text, name='chanhub', folder=None):
     """The status, what was written to standard output, and to standard error, of the program under this name."""
-    done = subprocess.run(
-        [name, *words], executable=PROGRAM, cwd=folder, input=text, capture_output=True, timeout=60
-    )
-    return done.returncode, done.stdout, done.stderr
+    return said([name, *words], text, executable=PROGRAM, cwd=folder)
 
 
 def run_unasked(words, text, folder):
@@ -38,11 +28,8 @@ def run_unasked(words, text, folder):
         file.write(text)
         file.flush()
         os.lseek(file.fileno(), 0, os.SEEK_SET)
-        done = subprocess.run(
-            ['chanhub', *words], executable=PROGRAM, cwd=folder, stdin=file, capture_output=True, timeout=60
-        )
-        left_alone = os.lseek(file.fileno(), 0, os.SEEK_CUR) == 0
-    return (done.returncode, done.stdout, done.stderr) if left_alone else None
+        told = said(['chanhub', *words], executable=PROGRAM, cwd=folder, stdin=file)
+        return told if os.lseek(file.fileno(), 0, os.SEEK_CUR) == 0 else None
 
 
 def write(folder, name, text):
@@ -55,10 +42,6 @@ def compare(folder, journal, events):
     write(folder, 'journal', journal)
     write(folder, 'events', events)
     return run(['verify', 'journal', 'events'], b'', folder=folder)
-
-
-def refused(fault):
-    return 2, b'', b'chanhub: %s\n' % fault.encode()
 
 
 def text_of(edition, row):
@@ -134,17 +117,9 @@ def long_journals(_):
 
 
 def faulty_journals(folder):
-    for group in table('faulty_journals')['group']:
-        for name, line in group['lines'].items():
-            journal = group['before'] + line + '\n' + group['after']
-            yield name, run(['replay'], journal.encode()) == refused(group['fault'])
-            yield name + ' compared', compare(folder, journal, '') == refused(group['fault'])
-
-
-    for fault, texts in table('faulty_journals')['texts'].items():
-        for text in texts:
-            yield repr(text), run(['replay'], text.encode()) == refused(fault)
-            yield repr(text) + ' compared', compare(folder, text, '') == refused(fault)
+    for name, journal, fault in programs.faulty_journals():
+        yield name, run(['replay'], journal.encode()) == refused(fault)
+        yield name + ' compared', compare(folder, journal, '') == refused(fault)
 
 
 def beginnings(_):
@@ -371,10 +346,7 @@ FAILED_WRITE = b'chanhub: write failed\n'
 def run_by_devices(library, at_most, text, **wrong):
     """The status and what was written, of a replay of this text by devices that give and take so many bytes a call."""
     how = {'LD_PRELOAD': library, 'AT_MOST': str(at_most), **{name: str(number) for name, number in wrong.items()}}
-    done = subprocess.run(
-        ['chanhub', 'replay'], executable=PROGRAM, input=text, capture_output=True, timeout=60, env={**os.environ, **how}
-    )
-    return done.returncode, done.stdout, done.stderr
+    return said(['chanhub', 'replay'], text, executable=PROGRAM, env={**os.environ, **how})
 
 
 def build_library(folder, name):
@@ -420,22 +392,16 @@ def devices(folder):
         yield 'a fault line to a full device', run_into('stderr', full, ['replay'], b'') == (2, b'')
     for words in (['replay'], ['run']):
         unreadable = os.open(folder, os.O_RDONLY)
-        done = subprocess.run(['chanhub', *words], executable=PROGRAM, stdin=unreadable, capture_output=True, timeout=60)
+        answer = said(['chanhub', *words], executable=PROGRAM, stdin=unreadable)
         os.close(unreadable)
-        answer = done.returncode, done.stdout, done.stderr
         yield ' '.join(words) + ' from a directory', answer == (1, b'', b'chanhub: read failed\n')
 
 
 def main():
-    count = Count()
-    with tempfile.TemporaryDirectory() as folder:
-        for rows in (
-            journals, long_journals, longest_journals, faulty_journals, beginnings, comparisons, runs, scenarios,
-            long_scenarios, arguments, devices, small_devices,
-        ):
-            for name, is_well in rows(folder):
-                count.test(f'{rows.__name__}: {name}', is_well)
-    return count.end()
+    return count_checks((
+        journals, long_journals, longest_journals, faulty_journals, beginnings, comparisons, runs, scenarios,
+        long_scenarios, arguments, devices, small_devices,
+    ))
 
 
 if __name__ == '__main__':

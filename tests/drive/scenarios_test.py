@@ -15,12 +15,9 @@ import subprocess
 import sys
 import tempfile
 import time
-import tomllib
 
 sys.dont_write_bytecode = True
-ROOT = os.path.dirname(os.path.dirname(os.path.dirname(os.path.abspath(__file__))))
-sys.path[:0] = [os.path.join(ROOT, it) for it in ('tools', 'tools/build', 'tools/gate', 'tests/oracle')]
-from counting import Count
+from programs import ROOT, Count, said, table
 
 EXAMPLES = os.path.join(ROOT, 'examples')
 
@@ -29,8 +26,7 @@ LONG = 120
 
 
 def run(words, **how):
-    done = subprocess.run(words, stdin=subprocess.DEVNULL, capture_output=True, timeout=LONG, **how)
-    return done.returncode, done.stdout.decode(), done.stderr.decode()
+    return said(words, '', LONG, text=True, **how)
 
 
 def read(path):
@@ -41,11 +37,6 @@ def read(path):
 def write(path, text):
     with open(path, 'wb') as file:
         file.write(text)
-
-
-def table(name):
-    with open(os.path.join(ROOT, 'tests', name + '.toml'), 'rb') as file:
-        return tomllib.load(file)
 
 
 def path_of(name):
@@ -129,11 +120,12 @@ class Tests(Count):
         return os.path.join(self.folder, name)
 
     def script(self, name, *words):
-        try:
-            return run([path_of(name), *words], env=self.env)
-        except OSError:
-            # There is no such script.
-            return None, '', ''
+        return run([path_of(name), *words], env=self.env)
+
+    def is_usage(self, *words):
+        """Whether a script says how it is used, and nothing else."""
+        status, told, errors = self.script(*words)
+        return status == 2 and told == '' and errors.startswith('usage: ')
 
     def left(self):
         """What lies in the folder for what is kept for a while."""
@@ -203,8 +195,7 @@ class Tests(Count):
         one = read(told.splitlines()[0]) if told else b''
         self.test('explain.sh explains one step of a journal', status == 0 and errors == '' and b'\n      2  P' in one and b'\n      1  P' not in one and b'\n      3  P' not in one)
         for words in ((), (journal, '1', '2', '3'), (journal, journal), (journal, '1', journal), (journal, ''), (journal, '-o')):
-            status, told, errors = self.script('explain.sh', *words)
-            self.test('explain.sh says how it is used: %s' % (words[1:],), status == 2 and told == '' and errors.startswith('usage: '))
+            self.test('explain.sh says how it is used: %s' % (words[1:],), self.is_usage('explain.sh', *words))
         before = self.left()
         write(self.path('faulty'), b'chanhub journal 1\nprocs 0\n')
         status, told, errors = self.script('explain.sh', self.path('faulty'))
@@ -227,8 +218,7 @@ class Tests(Count):
         said = f'{other} breaks the chain at line 6: not the checkpoint of the chapter before\n'
         self.test('explain.sh --after another chapter', (status, told, errors, self.left()) == (3, '', said, left))
         for words in ((), (before,)):
-            status, told, errors = self.script('explain.sh', '--after', *words)
-            self.test('explain.sh --after says how it is used', status == 2 and told == '' and errors.startswith('usage: '))
+            self.test('explain.sh --after says how it is used', self.is_usage('explain.sh', '--after', *words))
 
     def explains_every_run(self):
         stalls, ends = (os.path.join(EXAMPLES, it) for it in ('philosophers', os.path.join('scenarios', 'mutual_exclusion')))
@@ -248,8 +238,7 @@ class Tests(Count):
         write(self.path('faulty'), b'ports = [x]\n')
         status, told, errors = self.script('explain.sh', '--every', self.path('faulty'))
         self.test('explain.sh --every leaves nothing of a faulty scenario', (status, told, self.left()) == (2, '', before) and errors.startswith('chanhub: scenario: '))
-        status, told, errors = self.script('explain.sh', '--every')
-        self.test('explain.sh --every says how it is used', status == 2 and told == '' and errors.startswith('usage: '))
+        self.test('explain.sh --every says how it is used', self.is_usage('explain.sh', '--every'))
 
     def stalls(self):
         stalls, ends = (os.path.join(EXAMPLES, 'scenarios', it) for it in ('everyone_stalls', 'hand_over'))
@@ -257,12 +246,10 @@ class Tests(Count):
         found = re.fullmatch(r'run 1 stalled: (\S+)\n', told)
         journal = read(found[1]) if found else b''
         self.test('until_stall.sh keeps the journal of a run that stalls', status == 0 and errors == '' and journal.startswith(b'chanhub journal '))
-        events = subprocess.run([self.program, 'replay'], input=journal, capture_output=True).stdout
-        self.test('until_stall.sh keeps a journal with a stall', b' stalled\n' in events)
+        self.test('until_stall.sh keeps a journal with a stall', b' stalled\n' in said([self.program, 'replay'], journal)[1])
         before = self.left()
         self.test('until_stall.sh says that none stalled', self.script('until_stall.sh', ends, '3') == (1, 'none of 3 runs stalled\n', '') and self.left() == before)
-        status, told, errors = self.script('until_stall.sh', ends, 'many')
-        self.test('until_stall.sh says how it is used', status == 2 and told == '' and errors.startswith('usage: '))
+        self.test('until_stall.sh says how it is used', self.is_usage('until_stall.sh', ends, 'many'))
         write(self.path('faulty'), b'ports = 1\n')
         self.test('until_stall.sh on a faulty file', self.script('until_stall.sh', self.path('faulty')) == (2, '', 'chanhub: scenario: bad key\n'))
         self.test('until_stall.sh --help', self.script('until_stall.sh', '--help')[:2:2] == (0,) and 'seed' in self.script('until_stall.sh', '--help')[1])
@@ -274,13 +261,8 @@ class Tests(Count):
         """A signal to the script's group, as Ctrl-C sends it: it ends, with its status, and leaves nothing."""
         before = self.left()
         what = '%s ends by %s and leaves nothing' % (name, number.name)
-        try:
-            how = {'env': self.env, 'start_new_session': True, 'stdout': subprocess.PIPE, 'stderr': subprocess.STDOUT}
-            child = subprocess.Popen([path_of(name), *words], **how)
-        except OSError:
-            self.test(what, False)
-            return
-        with child:
+        how = {'env': self.env, 'start_new_session': True, 'stdout': subprocess.PIPE, 'stderr': subprocess.STDOUT}
+        with subprocess.Popen([path_of(name), *words], **how) as child:
             # What lies in its folder shows that it has begun with its runs.
             until = time.monotonic() + LONG
             while not any(os.listdir(os.path.join(self.folder, it)) for it in self.left() - before) and time.monotonic() < until:
@@ -299,8 +281,9 @@ class Tests(Count):
         self.test('seeds.sh counts outcomes and journals', (status, errors) == (0, '') and told.endswith('6 runs, 2 outcomes, 6 different journals\n'))
         self.test('seeds.sh counts the journals of an outcome', '4 of 6, first with seed 0, status 0:\n' in told and '  different journals: 4\n' in told)
         names = sorted(os.listdir(kept)) if os.path.isdir(kept) else []
-        replays = [subprocess.run([self.program, 'replay'], input=read(os.path.join(kept, it)), capture_output=True) for it in names]
-        self.test('seeds.sh keeps a journal of each outcome', names == ['journal_1', 'journal_2'] and all(it.returncode == 0 for it in replays) and b'got 2' in replays[0].stdout and b'got 1' in replays[1].stdout)
+        replays = [said([self.program, 'replay'], read(os.path.join(kept, it))) for it in names]
+        is_well = names == ['journal_1', 'journal_2'] and all(status == 0 for status, _, _ in replays)
+        self.test('seeds.sh keeps a journal of each outcome', is_well and b'got 2' in replays[0][1] and b'got 1' in replays[1][1])
         status, told, errors = self.script('seeds.sh', '--help')
         self.test('seeds.sh says that no seed repeats a schedule', status == 0 and 'No seed repeats a schedule' in told)
         status, told, errors = self.script('seeds.sh', os.path.join(EXAMPLES, 'scenarios', 'limit_is_reached'), '2')
@@ -312,41 +295,17 @@ class Tests(Count):
 
     def answers(self):
         """Behind the program's fault line stands one line more, which says what is wrong."""
-        missing, two, journal = self.path('missing'), self.path('two'), b'chanhub journal 1\nprocs 1\n'
-        text = b'ports = [9999]\nprocess = [{steps = ["recv x"]}]\n'
-        write(two, text)
-        full = os.path.join(EXAMPLES, 'scenarios', 'limit_is_reached')
-        for words, given, fault, helps in (
-            ([], b'', 'bad arguments', 'there is no command'),
-            (['runn'], b'', 'bad arguments', '`runn` is no command'),
-            (['run', '--jurnal'], b'', 'bad arguments', '`--jurnal` is no option of run'),
-            (['run', '--journal', '--journal'], b'', 'bad arguments', '`--journal` stands twice'),
-            (['run', two, 'b'], b'', 'bad arguments', '`b` is one word too many'),
-            (['run', b'\xff'], b'', 'bad arguments', '`\\xff` is not UTF-8'),
-            (['replay', two], b'', 'bad arguments', '`%s` is one word too many: replay reads standard input' % two),
-            (['verify', '--journal', two], b'', 'bad arguments', '`--journal` is no option of verify'),
-            (['verify'], b'', 'bad arguments', 'verify lacks JOURNAL and EVENTS'),
-            (['verify', two], b'', 'bad arguments', 'verify lacks EVENTS'),
-            (['verify', two, two, 'c'], b'', 'bad arguments', '`c` is one word too many'),
-            (['run', missing], b'', 'read failed', missing + ': No such file'),
-            (['run', self.folder], b'', 'read failed', self.folder + ': Is a directory'),
-            (['verify', two, missing], b'', 'read failed', missing + ': No such file'),
-            (['replay'], journal.replace(b'\n', b'\r\n'), 'line 1: bad header', 'line 1 ends with a carriage return (CRLF)'),
-            (['replay'], b'\xef\xbb\xbf' + journal, 'line 1: bad header', 'line 1 begins with a byte-order mark'),
-            (['replay'], b'', 'line 1: bad header', 'the journal ends before line 1'),
-            (['replay'], b'chanhub journal 1\nprocs 65\n', 'line 2: bad procs', 'line 2 is `procs 65`'),
-            (['replay'], journal + b'0 exit', 'line 3: cut line', 'line 3, the last, has no newline'),
-            (['replay'], journal + b'0 mak 1\n0 exit\n', 'line 3: bad step', 'line 3 is `0 mak 1`: a step is'),
-            (['replay'], journal + b'0 make 01\n', 'line 3: bad number', 'line 3 is `0 make 01`: a number'),
-            (['run', two], b'', 'scenario: bad ports', two + ':1:10: '),
-            (['run'], text, 'scenario: bad ports', 'standard input:1:10: '),
-            (['run', full], b'', 'journal full', 'the scripts ask for more steps'),
-        ):
+        missing, two = self.path('missing'), self.path('two')
+        write(two, table('answers')['two'].encode())
+        named = {'MISSING': missing, 'TWO': two, 'FOLDER': self.folder, 'FULL': os.path.join(EXAMPLES, 'scenarios', 'limit_is_reached'), 'BYTE': b'\xff'}
+        for row in table('answers')['row']:
+            words, given, fault = [named.get(word, word) for word in row['words']], row.get('given', '').encode(), row['fault']
+            helps = re.sub('MISSING|TWO|FOLDER', lambda found: named[found[0]], row['helps'])
             write(self.path('given'), given)
             with open(self.path('given')) as file:
                 status, told = self.answered(words, stdin=file, stdout=subprocess.DEVNULL)
-            wanted = subprocess.run([self.program, *words], input=given, capture_output=True)
-            is_same = (status, told.splitlines(keepends=True)[:1]) == (wanted.returncode, [wanted.stderr.decode()])
+            wanted, _, errors = said([self.program, *words], given)
+            is_same = (status, told.splitlines(keepends=True)[:1]) == (wanted, [errors.decode()])
             is_well = is_same and told.startswith('chanhub: %s\n./chanhub: %s' % (fault, helps)) and told.count('\n') == 2
             self.test('answer.py helps with %s %s' % (words, given), is_well, told)
         import answer
@@ -359,8 +318,8 @@ class Tests(Count):
         told = self.answered(['replay'], input=b'chanhub journal 1\n', stdout=subprocess.DEVNULL)
         self.test('answer.py cannot read a pipe again', told[0] == 2 and 'give the input as a file' in told[1], told)
         for name in examples('scenarios'):
-            ran = subprocess.run([self.program, 'run', name], capture_output=True)
-            self.test('answer.py adds nothing to ' + name, ran.returncode in (1, 2) or self.answered(['run', name], stdout=subprocess.DEVNULL) == (ran.returncode, ''))
+            status = run([self.program, 'run', name])[0]
+            self.test('answer.py adds nothing to ' + name, status in (1, 2) or self.answered(['run', name], stdout=subprocess.DEVNULL) == (status, ''))
 
     def refusals(self):
         """No script meets a file by a traceback."""
@@ -369,8 +328,8 @@ class Tests(Count):
                 status, told, errors = self.script(name, path)
                 self.test('%s on %s' % (name, path), (status, told) == (1, '') and errors.startswith('%s: %s: %s' % (name, path, why)) and errors.count('\n') == 1, errors)
         for name in ('model.py', 'story_model.py'):
-            done = subprocess.run([path_of(name)], input=b'chanhub journal 1\nprocs 1\n0 mak 1\n', capture_output=True)
-            self.test('%s on no journal' % name, (done.returncode, done.stdout, done.stderr) == (1, b'', name.encode() + b': standard input: line 3 is none of a journal\n'), done.stderr)
+            told = said([path_of(name)], 'chanhub journal 1\nprocs 1\n0 mak 1\n', text=True)
+            self.test('%s on no journal' % name, told == (1, '', name + ': standard input: line 3 is none of a journal\n'), told)
         for name in ('explain.sh', 'page.py', 'overview.py', 'windows.py', 'until_stall.sh', 'seeds.sh', 'lint_scenario.py', 'aarch64.sh', 'soak.sh', 'trials.sh', 'build.py', 'ready.py', 'claims.py', 'model.py', 'story_model.py'):
             for word in ('-h', '--help'):
                 status, told, errors = self.script(name, word)
@@ -397,8 +356,7 @@ class Tests(Count):
             wanted = read(scenario + '.stdout')
             if not wanted:
                 continue
-            journal = subprocess.run([self.program, 'run', scenario, '--journal'], capture_output=True).stdout
-            write(self.path('journal'), journal)
+            write(self.path('journal'), said([self.program, 'run', scenario, '--journal'])[1])
             status, _, _ = self.script('report.py', self.program, self.path('journal'))
             self.test('report.py on ' + os.path.basename(scenario), status == 0 and read(self.path('journal.report')) == wanted)
 

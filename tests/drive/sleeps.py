@@ -3,15 +3,12 @@
 hub, and looks how much of the processor that takes: who waits has to sleep. The last line counts: 'N passed, M failed'."""
 import os
 import resource
-import subprocess
 import sys
 import tempfile
 import time
 
 sys.dont_write_bytecode = True
-ROOT = os.path.dirname(os.path.dirname(os.path.dirname(os.path.abspath(__file__))))
-sys.path.insert(0, os.path.join(ROOT, 'tools/gate'))
-from counting import Count
+from programs import Count, said
 from rows import PROGRAM, build_library
 
 # A run takes some hundredths of a second of the processor; a wait that does not sleep takes a whole one.
@@ -38,11 +35,8 @@ def busy_time():
 def run(library, slow, scenario):
     """What a run tells; how long it took, and how much of the processor."""
     began, busy = time.monotonic(), busy_time()
-    done = subprocess.run(
-        [PROGRAM, 'run'], input=scenario.encode(), capture_output=True, timeout=60,
-        env={**os.environ, 'LD_PRELOAD': library, **slow},
-    )
-    return (done.returncode, done.stdout, done.stderr), time.monotonic() - began, busy_time() - busy
+    told = said([PROGRAM, 'run'], scenario.encode(), env={**os.environ, 'LD_PRELOAD': library, **slow})
+    return told, time.monotonic() - began, busy_time() - busy
 
 
 def main():

@@ -13,20 +13,18 @@ import resource
 import subprocess
 import sys
 import tempfile
-import tomllib
 import tty
 
 sys.dont_write_bytecode = True
-ROOT = pathlib.Path(__file__).resolve().parents[2]
-sys.path[:0] = [str(ROOT / it) for it in ("tools/gate", "tests/oracle")]
-from counting import Count
+import programs
+from programs import JOURNALS, MINUTE, ROOT, examples, refused, table
+from random_journal import Journal
 from refusals import NO_MEMORY, Refuser
 from story_model import Story
 
 RANDOM_JOURNALS = 200
 # of these by windows too
 WINDOWED = 50
-MINUTE = 60
 MOST_BYTES = 67_108_864
 # the most memory for the story of a journal of so many bytes that has the most entries
 MOST_MEMORY = 1_000_000_000
@@ -49,12 +47,10 @@ class Program:
     def run(self, words, journal=b"", folder=None, **environment):
         """The status, what was written to standard output, and to standard error; nothing where it takes too long. It runs in the
         folder."""
-        how = {"cwd": folder, "env": {**os.environ, **environment}, "timeout": MINUTE}
         try:
-            done = subprocess.run([self.path, *words], input=journal, capture_output=True, **how)
+            return programs.said([self.path, *words], journal, cwd=folder, env={**os.environ, **environment})
         except subprocess.TimeoutExpired:
             return None
-        return done.returncode, done.stdout, done.stderr
 
     def memory(self, words, journal):
         """The status, how many bytes of text were written, and the most memory in bytes that was resident."""
@@ -101,9 +97,9 @@ class Program:
     def run_on_folder(self, words):
         """The same as of `run`, where standard input is a folder, of which nothing can be read."""
         folder = os.open(ROOT, os.O_RDONLY)
-        done = subprocess.run([self.path, *words], stdin=folder, capture_output=True, timeout=MINUTE)
+        done = programs.said([self.path, *words], stdin=folder)
         os.close(folder)
-        return done.returncode, done.stdout, done.stderr
+        return done
 
     def tells(self, journal, story, window):
         """Whether it tells these steps of the journal, or all where there is no window, as story_model.py does."""
@@ -111,23 +107,12 @@ class Program:
         return self.run(words, journal.encode()) == (0, story.text(*window or (1, len(story.entries))), b"")
 
 
-def refused(fault):
-    return 2, b"", f"chanhub: {fault}\n".encode()
-
-
-def table(name):
-    return tomllib.loads((ROOT / "tests" / (name + ".toml")).read_text())
-
-
-def journals(work):
+def journals():
     """Each example, and random journals of each edition; and whether they are told by windows too."""
-    for path in sorted((ROOT / "examples" / "journals").iterdir()):
-        if not path.suffix:
-            yield path.name, path.read_text(), True
-    for third, name in ([], "random journal"), (["--third"], "random journal of the third edition"):
-        subprocess.run([ROOT / "tests" / "drive" / "random_journal.py", *third, "1", str(RANDOM_JOURNALS), work], check=True)
+    yield from ((path.name, path.read_text(), True) for path in examples(JOURNALS))
+    for third, name in (False, "random journal"), (True, "random journal of the third edition"):
         for seed in range(1, RANDOM_JOURNALS + 1):
-            yield f"{name} {seed}", (pathlib.Path(work) / f"journal_{seed}").read_text(), seed <= WINDOWED
+            yield f"{name} {seed}", Journal(seed, 0, third).text(), seed <= WINDOWED
 
 
 def with_clock(journal, draw):
@@ -149,7 +134,7 @@ def clocks(program, work):
     """Journals of hubs with a clock, and some that nearly have one."""
     draw = random.Random(2)
     have = 0
-    for name, journal, _ in journals(work):
+    for name, journal, _ in journals():
         if journal.startswith("chanhub journal 2") and "procs 64\n" not in journal:
             journal = with_clock(journal, draw)
             story = Story(journal)
@@ -162,7 +147,7 @@ def clocks(program, work):
 
 def texts(program, work):
     draw = random.Random(1)
-    for name, journal, by_windows in journals(work):
+    for name, journal, by_windows in journals():
         story = Story(journal)
         count = len(story.entries)
         one = draw.randint(1, count)
@@ -173,7 +158,7 @@ def texts(program, work):
 
 def colours(program, work):
     """In colours where these are asked for, or where the story goes to a terminal and the environment does not refuse them."""
-    for name, journal, by_windows in journals(work):
+    for name, journal, by_windows in journals():
         if by_windows:
             story = Story(journal)
             count = len(story.entries)
@@ -207,15 +192,9 @@ def worked(program, _):
 
 def faulty_journals(program, _):
     """The fault comes first, whatever steps are asked for."""
-    rows = table("faulty_journals")
-    for group in rows["group"]:
-        for name, line in group["lines"].items():
-            journal = (group["before"] + line + "\n" + group["after"]).encode()
-            yield name, program.run(["story"], journal) == refused(group["fault"])
-            yield name + " with steps", program.run(["story", "2", "1"], journal) == refused(group["fault"])
-    for fault, faulty in rows["texts"].items():
-        for text in faulty:
-            yield repr(text), program.run(["story"], text.encode()) == refused(fault)
+    for name, journal, fault in programs.faulty_journals():
+        yield name, program.run(["story"], journal.encode()) == refused(fault)
+        yield name + " with steps", program.run(["story", "2", "1"], journal.encode()) == refused(fault)
 
 
 def devices(program, _):
@@ -271,15 +250,9 @@ def most_entries(program, _):
 
 
 def count(program, *parts):
-    """Makes the checks of each part, prints those that fail and how many there were, and answers the status."""
-    # Nothing here holds itself, and to look through millions of entries for what does takes a third of the time.
+    # To look through millions of entries for those that hold each other alone takes a third of the time.
     gc.disable()
-    count = Count()
-    with tempfile.TemporaryDirectory() as work:
-        for checks in parts:
-            for name, good in checks(program, work):
-                count.test(f"{checks.__name__}: {name}", good)
-    return count.end()
+    return programs.count_checks(parts, program)
 
 
 def main():

@@ -8,8 +8,9 @@ import subprocess
 import sys
 
 sys.dont_write_bytecode = True
+from programs import ROOT, refused, table
 from refusals import Refuser
-from story import ROOT, Program, count, refused, survives_refusals, table
+from story import Program, count, survives_refusals
 from story_model import Story
 
 ROWS = table("tool")

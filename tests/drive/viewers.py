@@ -6,17 +6,16 @@ the rules of their format. Runs the rows of tests/viewers.toml, which have data 
 which needs a C compiler, and pages to files without room for them. Pages are compared further by page_test.py. The last line counts: 'N passed, M failed'."""
 import collections
 import json
-import pathlib
 import re
 import sys
 
 sys.dont_write_bytecode = True
-sys.path[:0] = [str(pathlib.Path(__file__).resolve().parents[2] / it) for it in ("tools", "tests/oracle")]
+from programs import refused, table
+from story import Program, begins_under_refusals, count, journals, survives_refusals
+from refusals import Refuser
 import page
 import story_model
 import walk
-from refusals import Refuser
-from story import Program, begins_under_refusals, count, journals, refused, survives_refusals, table
 
 MOST_STEPS = 200
 # a page of a million steps takes so many bytes of memory more than the story of one of them at most; its text has thirty times as many
@@ -27,19 +26,16 @@ TOO_LONG = refused("too long for a diagram, which shows 200 steps at most")
 Told = collections.namedtuple("Told", "entry by words")
 
 
-class Journal(walk.Walk):
+class Journal(walk.Journal):
     """A journal, and all that it tells."""
 
     def __init__(self, text):
-        super().__init__(text.splitlines())
-        self.entries, self.told = [], []
-        self.levels = collections.defaultdict(dict)  # by port, how many values it holds after each step by which one moved
-        for entry, ended in self:
-            self.entries.append(entry)
-            self.told += [Told(entry, entry.place, "parked")] * entry.is_parked
-            self.told += [Told(other, entry.place, other.end) for other in ended]
-            for port in (other.move.port for other in ended if other.move):
-                self.levels[port][entry.place] = self.ports[port].count
+        self.told = []
+        super().__init__(text)
+
+    def take(self, entry, ended):
+        self.told += [Told(entry, entry.place, "parked")] * entry.is_parked
+        self.told += [Told(other, entry.place, other.end) for other in ended]
 
 
 def asked_by(entry):
@@ -212,7 +208,7 @@ def page_of(data, journal):
 
 
 def diagrams(program, work):
-    for name, text, by_windows in journals(work):
+    for name, text, by_windows in journals():
         journal = Journal(text)
         steps = len(journal.entries)
         status, written, errors = program.run(["mermaid"], text.encode())
@@ -226,7 +222,7 @@ def diagrams(program, work):
 
 
 def traces(program, work):
-    for name, text, _ in journals(work):
+    for name, text, _ in journals():
         status, written, errors = program.run(["trace"], text.encode())
         yield name, (status, errors) == (0, b"") and is_trace(written)
         yield f"{name}: its events", in_any_order(json.loads(written)["traceEvents"]) == in_any_order(events_of(Journal(text)))

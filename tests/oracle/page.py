@@ -104,8 +104,7 @@ class Data:
             if other.move:
                 (self.sketch.sent if other.move.side == "s" else self.sketch.got)[other.move.port] += 1
                 self.tell_way(other)
-        for other in filter(lambda other: other.move, ended):
-            port = other.move.port
+        for port in walk.ports_of(ended):
             self.sketch.most[port] = max(self.sketch.most[port], self.walk.ports[port].count)
         stalled = [other for other in ended if other.end == "stalled"]
         return asked + "".join(map(self.end, ended)) + "".join(self.stalls(entry.place, stalled)) + "\n"

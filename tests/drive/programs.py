@@ -1,0 +1,55 @@
+"""What the drivers share: where things stand, tables of rows and journals, what programs say, and how checks are counted."""
+import pathlib
+import subprocess
+import sys
+import tempfile
+import tomllib
+
+ROOT = pathlib.Path(__file__).resolve().parents[2]
+sys.path[:0] = [str(ROOT / it) for it in ("tools", "tools/build", "tools/gate", "tests/oracle")]
+from counting import Count
+
+MINUTE = 60
+JOURNALS, SCENARIOS = ROOT / "examples" / "journals", ROOT / "examples" / "scenarios"
+
+
+def table(name):
+    return tomllib.loads((ROOT / "tests" / f"{name}.toml").read_text())
+
+
+def examples(folder):
+    """The paths of the examples there."""
+    return [path for path in sorted(folder.iterdir()) if not path.suffix]
+
+
+def faulty_journals():
+    """The journals of tests/faulty_journals.toml, each with its name and its fault."""
+    rows = table("faulty_journals")
+    for group in rows["group"]:
+        for name, line in group["lines"].items():
+            yield name, f"{group['before']}{line}\n{group['after']}", group["fault"]
+    for fault, texts in rows["texts"].items():
+        yield from ((repr(text), text, fault) for text in texts)
+
+
+def said(words, given=b"", timeout=MINUTE, **how):
+    """The status, and what was written to standard output and to standard error."""
+    how = how if "stdin" in how else {**how, "input": given}
+    done = subprocess.run(words, capture_output=True, timeout=timeout, **how)
+    return done.returncode, done.stdout, done.stderr
+
+
+def refused(fault):
+    """What is said of a fault of what is given."""
+    return 2, b"", f"chanhub: {fault}\n".encode()
+
+
+def count_checks(parts, *words):
+    """Makes the checks of each part, which is given these words and a folder, prints those that fail and how many there were, and answers
+    the status."""
+    count = Count()
+    with tempfile.TemporaryDirectory() as work:
+        for part in parts:
+            for name, good in part(*words, work):
+                count.test(f"{part.__name__}: {name}", good)
+    return count.end()

@@ -17,7 +17,7 @@ import sys
 import tempfile
 
 sys.dont_write_bytecode = True
-from programs import MINUTE, ROOT, SCENARIOS, Count, examples
+from programs import MINUTE, ROOT, SCENARIOS, Count, all_of, examples
 from explore import Scenario, answer, stalls
 import model
 
@@ -131,25 +131,12 @@ def independent(procs):
     return '\n'.join(lines + [f"[[process]]\nsteps = ['send {it} 7', 'recv {it}', 'send {it} 8']" for it in range(1, procs + 1)]) + '\n'
 
 
-def read_terminal(terminal):
-    """All that is written to a terminal."""
-    said = b''
-    try:
-        while piece := os.read(terminal, 4096):
-            said += piece
-    except OSError:  # the last that wrote there has ended
-        pass
-    return said.decode()
-
-
 def shown_by(tool, path, states):
     """What the tool shows on a terminal while it goes through so many states, and what it prints."""
     terminal, errors = pty.openpty()
     with subprocess.Popen([tool, 'explore', path, '--states', str(states)], stdout=subprocess.PIPE, stderr=errors, text=True) as child:
         os.close(errors)
-        shown = read_terminal(terminal)
-        os.close(terminal)
-        return shown, child.stdout.read()
+        return all_of(terminal).decode(), child.stdout.read()
 
 
 def tells_progress(tool, path, states=80_000):

@@ -536,24 +536,29 @@ def rows_of(size, fine):
 
 
 class Summed:
-    """What is known of each block of steps, counted step by step, and spread evenly over it: what lanes waited and so on, before a step."""
+    """What is known of each block of steps, counted step by step: what lanes waited and so on, before it and before the end."""
 
     def __init__(self, journal):
         self.count, self.tables = len(journal.entries), {}
-        blocks, asked = blocks_of(self.count), journal.entries
+        self.blocks = blocks_of(self.count)
         for lane in range(journal.procs + 1):
-            own = [(one, one.by if one.end else self.count) for one in asked if lane_of(journal, one) == lane]
-            self.tables["waited", lane] = [sum(max(0, min(by, end) - one.place) for one, by in own) for _, end in [(0, 0), *blocks]]
-            self.tables["asked", lane] = [sum(one.place < end for one, _ in own) for _, end in [(0, 0), *blocks]]
-            self.tables["troubles", lane] = [sum(by < end and one.is_trouble for one, by in own) for _, end in [(0, 0), *blocks]]
-        held_in = {level.port for level in journal.held()}
-        self.most = {port: [most_held(journal, port, *block) for block in blocks] for port in held_in}
+            own = [(one, one.by if one.end else self.count) for one in journal.entries if lane_of(journal, one) == lane]
+            self.tables["waited", lane] = [sum(max(0, min(by, end) - one.place) for one, by in own) for _, end in [(0, 0), *self.blocks]]
+            self.tables["asked", lane] = [sum(one.place < end for one, _ in own) for _, end in [(0, 0), *self.blocks]]
+            self.tables["troubles", lane] = [sum(by < end and one.is_trouble for one, by in own) for _, end in [(0, 0), *self.blocks]]
+            waiting = [[one.place for one, by in own if one.place < end <= by and one.place < by] for _, end in [(0, 0), *self.blocks]]
+            self.tables["open", lane] = [places[-1] if places else NEVER for places in waiting]
+        self.most = {port: [most_held(journal, port, *block) for block in self.blocks] for port in sorted({level.port for level in journal.held()})}
+
+    def of_block(self, name, lane, at):
+        one, other = self.tables[name, lane][at : at + 2]
+        return other - one
 
     def before(self, name, lane, step):
+        """How much it was before a step, if that of each block was spread evenly over it."""
         at = min(len(self.tables[name, lane]) - 2, int(max(0, step) // BLOCK))
         begin, end = at * BLOCK, min(self.count, (at + 1) * BLOCK)
-        one, other = self.tables[name, lane][at : at + 2]
-        return one + (other - one) * (step - begin) / (end - begin)
+        return self.tables[name, lane][at] + self.of_block(name, lane, at) * (step - begin) / (end - begin)
 
     def share(self, name, lane, first, end):
         return (self.before(name, lane, end) - self.before(name, lane, first)) / (end - first)
@@ -604,18 +609,6 @@ def check_far(browser, journal, summed, first, steps, fine):
     assert not wrong, f"{len(wrong)} columns, the first at {wrong[0]}: {sorted({*pixels[wrong[0]]} ^ {*wanted[wrong[0]][0]})[:3]}"
 
 
-# what is wrong in a viewer, which has to be noticed: what stands there, and what is put there
-BROKEN = {
-    "bands are a pixel too high": ("Math.max(1, Math.round(size * fine))", "1 + Math.round(size * fine)"),
-    "columns are shifted by a pixel": ("Math.round((left + dot) * fine)", "Math.round((left + dot) * fine + 1)"),
-    "a lane is left out": ("of view.place)\n            this.fillColumns", "of [...view.place].slice(1))\n            this.fillColumns"),
-    "bands stand a pixel too high": ("Math.round(y * fine - rows * above)", "Math.round(y * fine - rows * above - 1)"),
-    "columns tell of the steps of the next ones": ("first + dot / dots", "first + (dot + 2) / dots"),
-    "levels are those of a block later": ("let row = (at + 1) * width + port", "let row = (at + 2) * width + port"),
-    "pixels of the device are taken for dots": ("devicePixelRatio || 1", "1"),
-}
-
-
 def check_columns(browser, count, work):
     """Views from afar, on several screens, and whether a wrong one would be noticed."""
     text = RandomJournal(*FAR).text()
@@ -630,13 +623,13 @@ def check_columns(browser, count, work):
 
     for fine, *view in (1, 0, FAR[1]), (1, 300, 6100), (1.5, 300, 6100), (2, 0, FAR[1]), (2, 300, 6100):
         count.run(f"columns of {view[1]} steps, {fine} pixels a dot", lambda: look(right, fine, *view))
-    for name, (old, new) in BROKEN.items():
-        wrong, is_noticed = right.replace(old, new), False
+    for row in table("pages")["broken"]:
+        wrong, is_noticed = right.replace(row["old"], row["new"]), False
         try:
             look(wrong, 2, 300, 6100)
         except AssertionError:
             is_noticed = True
-        count.test(f"it is noticed that {name}", right.count(old) == 1 and is_noticed)
+        count.test(f"it is noticed that {row['name']}", right.count(row["old"]) == 1 and is_noticed)
     browser.ask("Emulation.setDeviceMetricsOverride", width=WIDTH, height=HEIGHT, deviceScaleFactor=1, mobile=False)
 
 
@@ -650,6 +643,12 @@ def drawn_at(browser, journal, first, steps):
     browser.value(f"page.view.show({first}, {steps}); window.drawn = []; page.paint()")
     drawn = Drawn(browser, journal.procs)
     return drawn, in_view(drawn, len(journal.entries))
+
+
+def check_view(browser, journal, first, steps):
+    """What is drawn of these steps: shapes, or of many of them a canvas."""
+    drawn, at = drawn_at(browser, journal, first, steps)
+    (check_shapes if steps <= 500 else check_canvas)(drawn, journal, *at)
 
 
 TOOLS = []  # the program that writes pages, if one is given
@@ -688,28 +687,27 @@ def check_waiting(browser, journal):
         assert runs in wanted, f"column {x}: {runs} and not {wanted}"
 
 
-def check_random(browser, count, work, seed, third=False):
-    text = RandomJournal(seed, 0, third).text()
+def check_journal(browser, count, text, path, name, views, draw):
+    """The page of a journal: these views, and what it sums up, finds and says."""
     journal = picture.Journal(text)
-    open_page(browser, text, work / "random.html")
-    draw, total = random.Random(seed).randrange, len(journal.entries)
-    for steps in (total, 40, 12):
-        first = draw(total - steps + 1)
+    open_page(browser, text, path)
+    for steps, first in views:
+        count.run(f"{name}, {steps} steps from {first + 1} on", lambda: check_view(browser, journal, first, steps))
+    count.run(f"strip of {name}", lambda: check_waiting(browser, journal))
+    count.run(f"sketches of {name}", lambda: check_sketches(text, journal))
+    for check in check_data, check_search, check_ways:
+        count.run(f"{check.__name__} of {name}", lambda: check(browser, journal))
+    count.run(f"panel of {name}", lambda: check_panel(browser, journal, draw))
+    return journal
 
-        def test():
-            drawn, at = drawn_at(browser, journal, first, steps)
-            check_shapes(drawn, journal, *at)
 
-        count.run(f"random journal {seed}, {steps} steps from {first + 1} on", test)
-    count.run(f"strip of random journal {seed}", lambda: check_waiting(browser, journal))
-    count.run(f"sketches of random journal {seed}", lambda: check_sketches(text, journal))
-    count.run(f"data of random journal {seed}", lambda: check_data(browser, journal))
-    count.run(f"search in random journal {seed}", lambda: check_search(browser, journal))
-    count.run(f"ways in random journal {seed}", lambda: check_ways(browser, journal))
-    count.run(f"panel of random journal {seed}", lambda: check_panel(browser, journal, draw))
+def check_random(browser, count, work, seed, third=False):
+    text, name = RandomJournal(seed, 0, third).text(), f"random journal {seed}"
+    draw, total = random.Random(seed).randrange, text.count("\n") - 2
+    check_journal(browser, count, text, work / "random.html", name, [(steps, draw(total - steps + 1)) for steps in (total, 40, 12)], draw)
     first = draw(total)
     window = first + 1, first + 1 + draw(min(90, total - first))
-    check_part(browser, count, work, text, f"random journal {seed}", window, [(0, total), (max(0, first - 5), 30)])
+    check_part(browser, count, work, text, name, window, [(0, total), (max(0, first - 5), 30)])
 
 
 def check_part(browser, count, work, text, name, window, several):
@@ -848,27 +846,14 @@ def check_part_panel(browser, journal):
 
 def check_long(browser, count, work, seed, total):
     """A journal of many blocks: what a window shows began and ends in other ones."""
-    text = RandomJournal(seed, total).text()
-    journal = picture.Journal(text)
-    open_page(browser, text, work / "random.html")
+    text, name = RandomJournal(seed, total).text(), f"long journal {seed}"
     draw = random.Random(seed).randrange
-    places = [(steps, draw(total - steps + 1)) for steps in (total, 900, 450, 100, 100, 30, 30)]
-    places += [(60, at * BLOCK - back) for at, back in zip(range(3, total // BLOCK, 4), (60, 58, 57, 30, 2, 0) * 9)]  # blocks' ends
-    for steps, first in places:
-
-        def test():
-            drawn, at = drawn_at(browser, journal, first, steps)
-            (check_shapes if steps <= 500 else check_canvas)(drawn, journal, *at)
-
-        count.run(f"long journal {seed}, {steps} steps from {first + 1} on", test)
-    count.run(f"sketches of long journal {seed}", lambda: check_sketches(text, journal))
-    count.run(f"data of long journal {seed}", lambda: check_data(browser, journal))
-    count.run(f"overview of long journal {seed}", lambda: check_overview(text, journal))
-    count.run(f"search in long journal {seed}", lambda: check_search(browser, journal))
-    count.run(f"ways in long journal {seed}", lambda: check_ways(browser, journal))
-    count.run(f"panel of long journal {seed}", lambda: check_panel(browser, journal, draw))
+    views = [(steps, draw(total - steps + 1)) for steps in (total, 900, 450, 100, 100, 30, 30)]
+    views += [(60, at * BLOCK - back) for at, back in zip(range(3, total // BLOCK, 4), (60, 58, 57, 30, 2, 0) * 9)]  # blocks' ends
+    journal = check_journal(browser, count, text, work / "random.html", name, views, draw)
+    count.run(f"overview of {name}", lambda: check_overview(text, journal))
     window = total // 3, total // 3 + 700
-    check_part(browser, count, work, text, f"long journal {seed}", window, [(0, total), (window[0] - 30, 100), (window[1] - 30, 60), (total - 50, 50)])
+    check_part(browser, count, work, text, name, window, [(0, total), (window[0] - 30, 100), (window[1] - 30, 60), (total - 50, 50)])
 
 
 def check_edges(browser, count, work):
@@ -891,35 +876,14 @@ def check_burst(browser, count, work):
     """Values that lie in a port for a block and more, so that one end is out of view; the last ten stay there."""
     journal = picture.Journal(BURST)
     open_page(browser, BURST, work / "burst.html")
-
-    def test(first):
-        drawn, at = drawn_at(browser, journal, first, 40)
-        check_shapes(drawn, journal, *at)
-
     for first in range(0, len(journal.entries) - 40, 30):
-        count.run(f"a burst, 40 steps from {first + 1} on", lambda: test(first))
+        count.run(f"a burst, 40 steps from {first + 1} on", lambda: check_view(browser, journal, first, 40))
     partners = browser.value("page.journal.stepsOf(1, 101).map((step) => step.partner && step.partner.place)")
     count.test("the other ends of values", partners == [*range(101, 191), *[None] * 10], partners)
 
 
 # ---- whether this test would notice
 
-# what is wrong in the data of a page: what stands there, and what is put there; the first place counts
-WRONG = {
-    "an arrow is left out": (r"g0@\d+", "D"),
-    "an arrow comes from an earlier step": (r"(?<=g0@)2(?=;)", "3"),
-    "a bar ends a step early": (r"(0s1:\d+;0s0;1:1)\n2r2;0g0@2;2:0;2s0;2:0", r"\1;1s0;2:0\n2r2;0g0@2;2:0"),
-    "a bar begins a step late": (r"(?<=;)2(?=s0)", "1"),
-    "a level is off by one": (r"(?<=;\d:)1(?=\n)", "2"),
-    "a level is not told": (r";1:1(?=\n)", ""),
-    "a stall is not told": (r";0S(?=;)", ";0x"),
-    "a guess is not told": (r";\d>\d", ""),
-    "a step is another process's": (r"(?m)^1(?=r)", "0"),
-    "a call waits behind a block since another step": (r"(?<=o)(\d+)", lambda found: str(int(found[1]) + 1)),
-    "a call does not wait behind a block": (r"o\d+", ""),
-    "a value was sent less in a block": (r"(?<=s)(\d+)(?=g)", lambda found: str(int(found[1]) - 1)),
-    "a value was received more in a block": (r"(?<=\dg)(\d+)(?=p|\n)", lambda found: str(int(found[1]) + 1)),
-}
 WORKERS = "chanhub journal 2\nprocs 4\n0 make 2\n0 make 0\n0 make 0\n3 recv 3\n" + "".join(
     f"0 send 1 {n}\n1 recv 1\n1 send 2 {n}\n0 send 1 {n + 1}\n2 recv 2\n1 recv 1\n2 recv 2\n1 send 2 {n + 1}\n" for n in range(100, 130)) + "2 recv 1\n1 recv 1\n0 send 3 7\n3 recv 1\n0 recv 2\n"
 
@@ -935,16 +899,16 @@ def check_notices(browser, count, work):
         browser.open(path)
         try:
             for first in 0, 40, 2 * BLOCK, 170, len(journal.entries) - 60:
-                drawn, at = drawn_at(browser, journal, first, 60)
-                check_shapes(drawn, journal, *at)
+                check_view(browser, journal, first, 60)
         except AssertionError:
             return False
         return True
 
     count.test("the right data are right", is_right(text[begin:end]))
-    for name, (old, new) in WRONG.items():
-        wrong = re.sub(old, new, text[begin:end], count=1)
-        count.test(f"it is noticed that {name}", wrong != text[begin:end] and not is_right(wrong))
+    for row in table("pages")["wrong"]:
+        new = row["new"] if "new" in row else lambda found: str(int(found[0]) + row["by"])
+        wrong = re.sub(row["old"], new, text[begin:end], count=1)
+        count.test(f"it is noticed that {row['name']}", wrong != text[begin:end] and not is_right(wrong))
     del browser.errors[:]
 
 
@@ -974,16 +938,13 @@ def counted(letters, numbers):
     return "".join(f"{letter}{number}" for letter, number in zip(letters, numbers) if number)
 
 
-def sketch_of(journal, asked, first, until):
+def sketch_of(journal, summed, at, first, until):
     """The sketch of these steps, counted step by step."""
-    lanes = [[0] * 4 for _ in range(journal.procs + 1)]
-    for one in asked:
-        by, own = one.by if one.end else len(asked), lanes[lane_of(journal, one)]
-        own[0] += max(0, min(by, until) - max(one.place, first))
-        own[1] += first <= one.place < until
-        own[2] += first <= by < until and one.is_trouble
-        own[3] += until - one.place if one.place < until <= by and one.place < by else 0
-    text = "~" + "".join(f"P{lane}" + counted("wato", own) for lane, own in enumerate(lanes) if any(own))
+    text = "~"
+    for lane in range(journal.procs + 1):
+        own = [summed.of_block(name, lane, at) for name in ("waited", "asked", "troubles")]
+        since = summed.tables["open", lane][at + 1]
+        text += f"P{lane}" + counted("wato", [*own, 0 if since == NEVER else until - since]) if any(own) or since != NEVER else ""
     for port in sorted({*journal.moved["s"], *journal.moved["r"]}):
         sent, received = ([one.by for one in journal.moved[side][port]] for side in "sr")
         steps = {by for by in [*sent, *received] if first <= by < until}
@@ -999,39 +960,29 @@ def most_held(journal, port, first, until):
 
 
 def check_sketches(text, journal):
-    asked = journal.entries
-    told, blocks = [line for line in data_of(text).splitlines() if line.startswith("~")], blocks_of(len(asked))
-    assert len(told) == len(blocks), f"so many sketches: {len(told)}"
-    for line, (first, until) in zip(told, blocks):
-        wanted = sketch_of(journal, asked, first, until)
+    told, summed = [line for line in data_of(text).splitlines() if line.startswith("~")], Summed(journal)
+    assert len(told) == len(summed.blocks), f"so many sketches: {len(told)}"
+    for at, (line, block) in enumerate(zip(told, summed.blocks)):
+        wanted = sketch_of(journal, summed, at, *block)
         assert line == wanted, f"{line} and not {wanted}"
 
 
 def check_data(browser, journal):
     """What the page sums up: before each block, and of the whole."""
-    asked, count = journal.entries, len(journal.entries)
+    asked, count, summed = journal.entries, len(journal.entries), Summed(journal)
     tables, whole = ["waited", "asked", "troubles", "open", "sent", "got", "most"], ["rooms", "lives", "stalls", "waits", "asks"]
     told = browser.value("Object.fromEntries(%s.map((name) => [name, [...page.journal[name]]]))" % json.dumps([*tables, *whole]))
     lanes, width = journal.procs + 1, len(journal.ports)
-    for at, until in some(list(enumerate([0, *(until for _, until in blocks_of(count))]))):
-        wanted = {name: [0] * lanes for name in tables[:3]} | {"open": [NEVER] * lanes}
-        for one in asked:
-            by, lane = one.by if one.end else count, lane_of(journal, one)
-            wanted["asked"][lane] += one.place < until
-            wanted["waited"][lane] += max(0, min(by, until) - one.place)
-            wanted["troubles"][lane] += by < until and one.is_trouble
-            if one.place < until <= by and one.place < by:
-                wanted["open"][lane] = one.place
+    for at, until in some(list(enumerate([0, *(until for _, until in summed.blocks)]))):
+        wanted = {name: [summed.tables[name, lane][at] for lane in range(lanes)] for name in tables[:4]}
         for name, side in (("sent", "s"), ("got", "r")):
             wanted[name] = [sum(one.by < until for one in journal.moved[side][port]) for port in range(width)]
         for name, counts in wanted.items():
             assert told[name][at * len(counts) : (at + 1) * len(counts)] == counts, f"{name} before step {until + 1}: {counts}"
-    held_in = {level.port for level in journal.held()}
-    for port in held_in:
-        for at, (first, until) in some(list(enumerate(blocks_of(count)))):
-            most = most_held(journal, port, first, until)
-            assert told["most"][(at + 1) * width + port] == most, f"port {port} from step {first + 1} on: {most}"
-    assert told["rooms"] == [journal.ports[port].room if port in held_in else 0 for port in range(1, width)], told["rooms"]
+    for port, several in summed.most.items():
+        for at, most in some(list(enumerate(several))):
+            assert told["most"][(at + 1) * width + port] == most, f"port {port} in block {at}: {most}"
+    assert told["rooms"] == [journal.ports[port].room if port in summed.most else 0 for port in range(1, width)], told["rooms"]
     lives = [[[life["begun"], life["exited"]] for life in own] for own in told["lives"]]
     assert lives[: journal.procs] == [journal.lives[pid] for pid in range(journal.procs)], lives
     assert told["stalls"] == [*journal.vain], told["stalls"]
@@ -1045,25 +996,24 @@ def check_data(browser, journal):
 
 def check_overview(text, journal):
     """The bars of tools/overview.py, counted step by step."""
-    data, asked = overview.Overview(text.splitlines()), journal.entries
-    drawn = "\n".join(overview.drawing(data))
-    blocks, x = blocks_of(len(asked)), lambda place: overview.LEFT + overview.WIDTH * place / len(asked)
-    for kind, count in ("waited", lambda one, first, until: max(0, min(one.by if one.end else len(asked), until) - max(one.place, first))), (
-            "asked", lambda one, first, until: first <= one.place < until):
+    drawn, summed = "\n".join(overview.drawing(overview.Overview(text.splitlines()))), Summed(journal)
+    x = lambda place: overview.LEFT + overview.WIDTH * place / summed.count
+
+    def bars_agree(name, path, floor, most, shares):
+        wanted = [(x(first), floor - share * most, x(until)) for (first, until), share in zip(summed.blocks, shares) if share]
+        agree(name, [tuple(map(float, bar)) for bar in re.findall(r"M([\d.]+),\d+V([\d.]+)H([\d.]+)V", path)], wanted, 0.06)
+
+    for kind in "waited", "asked":
         paths = re.findall(f'<path class="{kind}" d="([^"]*)">', drawn)
         assert len(paths) == journal.procs, f"{len(paths)} lanes"
         for pid, path in enumerate(paths):
-            own, floor = [one for one in asked if one.pid == pid], overview.TOP + (pid + 1) * overview.LANE
-            shares = [(first, until, sum(count(one, first, until) for one in own) / (until - first)) for first, until in blocks]
-            wanted = [(x(first), floor - share * (overview.LANE - 4), x(until)) for first, until, share in shares if share]
-            agree(f"{kind} bar of P{pid}", [tuple(map(float, bar)) for bar in re.findall(r"M([\d.]+),\d+V([\d.]+)H([\d.]+)V", path)], wanted, 0.06)
-    ports = sorted({level.port for level in journal.held()})
+            shares = [summed.of_block(kind, pid, at) / (until - first) for at, (first, until) in enumerate(summed.blocks)]
+            bars_agree(f"{kind} bar of P{pid}", path, overview.TOP + (pid + 1) * overview.LANE, overview.LANE - 4, shares)
     paths = re.findall('<path class="held" d="([^"]*)">', drawn)
-    assert len(paths) == len(ports), f"{len(paths)} ports"
-    for row, (port, path) in enumerate(zip(ports, paths), 1):
-        floor, shares = overview.TOP + journal.procs * overview.LANE + row * overview.STRIP, [most_held(journal, port, *block) / journal.ports[port].room for block in blocks]
-        wanted = [(x(first), floor - share * (overview.STRIP - 8), x(until)) for (first, until), share in zip(blocks, shares) if share]
-        agree(f"bar of port {port}", [tuple(map(float, bar)) for bar in re.findall(r"M([\d.]+),\d+V([\d.]+)H([\d.]+)V", path)], wanted, 0.06)
+    assert len(paths) == len(summed.most), f"{len(paths)} ports"
+    for row, ((port, most), path) in enumerate(zip(summed.most.items(), paths), 1):
+        floor = overview.TOP + journal.procs * overview.LANE + row * overview.STRIP
+        bars_agree(f"bar of port {port}", path, floor, overview.STRIP - 8, [count / journal.ports[port].room for count in most])
     stalls = [float(at) for at in re.findall(r'class="stall" d="M([\d.]+),', drawn)]
     agree("stall", [(at,) for at in stalls], [(x(by),) for by in journal.vain], 0.06)
 
@@ -1187,7 +1137,7 @@ def at(browser, step, lane):
 
 def check_rows(browser, count, work, row):
     """A page of tests/pages.toml."""
-    text = {"pipe": PIPE, "locks": LOCKS, "left": picture.LEFT}.get(row["journal"], row["journal"])
+    text = {"pipe": PIPE, "locks": LOCKS, "left": table("pages")["left"]}.get(row["journal"], row["journal"])
     path, journal = work / "rows.html", picture.Journal(text)
     open_page(browser, text, path)
     for verb, *words in row["steps"]:
@@ -1201,8 +1151,7 @@ def check_rows(browser, count, work, row):
             browser.value(*words)
             browser.settle()
         elif verb == "shapes":
-            drawn, window = drawn_at(browser, journal, *words)
-            count.run(f"{row['name']}: shapes", lambda: check_shapes(drawn, journal, *window))
+            count.run(f"{row['name']}: shapes", lambda: check_view(browser, journal, *words))
         else:
             make_move(browser, verb, words)
 

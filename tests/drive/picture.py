@@ -22,7 +22,7 @@ import tempfile
 import xml.etree.ElementTree as xml
 
 sys.dont_write_bytecode = True
-from programs import JOURNALS, MINUTE as WAIT, ROOT, Count, examples
+from programs import JOURNALS, MINUTE as WAIT, ROOT, Count, busy_time, examples, table
 from refusals import Refuser
 import random_journal
 import walk
@@ -442,13 +442,8 @@ def check_picture(picture, journal, first, end):
     allowed = "svg title style defs marker rect circle path text tspan use g".split()
     assert all(element.tag[len(SVG) :] in allowed for element in root.iter()), "an element of another kind"
     bands = Bands(first, end)
-    same("boxes", shapes(root, "box"), boxes(journal, bands))
-    same("bars", shapes(root, "bar"), bars(journal, bands))
-    same("arrows", shapes(root, "arrow"), arrows(journal, bands))
-    same("stalls", shapes(root, "stall"), stalls(journal, bands))
-    same("strips", shapes(root, "strip"), strips(journal, bands))
-    same("levels", shapes(root, "level"), levels(journal, bands))
-    same("who waits for whom", shapes(root, "whom"), whoms(journal, bands))
+    for shape, wanted in {"box": boxes, "bar": bars, "arrow": arrows, "stall": stalls, "strip": strips, "level": levels, "whom": whoms}.items():
+        same(shape, shapes(root, shape), wanted(journal, bands))
     layers_agree(root)
     arrows_agree(root, arrows(journal, bands), journal, bands)
     whoms_agree(root, whoms(journal, bands), journal, bands)
@@ -566,12 +561,6 @@ def check_costs(count, program):
         count.test(told, cost <= MOST_FACTOR * alone)
 
 
-def busy_time():
-    """How long the processor took for all that was started and has ended."""
-    used = resource.getrusage(resource.RUSAGE_CHILDREN)
-    return used.ru_utime + used.ru_stime
-
-
 def seconds(program, steps):
     """How long the processor takes for the whole picture of a journal of so many entries. The system knows that well, but only
     guesses how much of it was its own."""
@@ -598,34 +587,10 @@ def check_times(count, program):
 
 # ---- who has left
 
-# process 1, which alone received from ports 1 and 4, has exited; from port 2 process 2 received too, and from port 3 nobody did. So all
-# who received there have left in one row of these six: that of the send on port 1
-LEFT = """chanhub journal 2
-procs 4
-0 make 1
-0 make 1
-0 make 0
-0 make 1
-0 send 1 5
-1 recv 1
-0 send 2 6
-1 recv 2
-0 send 2 7
-2 recv 2
-0 send 4 8
-1 recv 4
-1 exit
-0 send 1 5
-0 send 2 6
-0 select 0 s1:9 s2:9 s3:9 r4
-2 select 0 r4 s3:1
-3 exit
-"""
-
-
 def check_left(count, program):
     """At the stall, and where calls wait in the end since process 3 does not exit."""
-    for name, text in ("all who received have left", LEFT), ("they have left, and nobody is stalled", LEFT.removesuffix("3 exit\n")):
+    left = table("pages")["left"]
+    for name, text in ("all who received have left", left), ("they have left, and nobody is stalled", left.removesuffix("3 exit\n")):
         check_journal(count, program, name, text.encode())
         journal = Journal(text)
         told = [row for row, *_ in waits(journal, Bands(0, len(journal.entries))) if "have left" in row]

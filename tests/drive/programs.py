@@ -1,5 +1,8 @@
 """What the drivers share: where things stand, tables of rows and journals, what programs say, and how checks are counted."""
+import contextlib
+import os
 import pathlib
+import resource
 import subprocess
 import sys
 import tempfile
@@ -37,6 +40,29 @@ def said(words, given=b"", timeout=MINUTE, **how):
     how = how if "stdin" in how else {**how, "input": given}
     done = subprocess.run(words, capture_output=True, timeout=timeout, **how)
     return done.returncode, done.stdout, done.stderr
+
+
+def build_library(folder, name, *flags):
+    """The library of this source in C, to stand before a program's own."""
+    library, source = pathlib.Path(folder) / f"{name}.so", ROOT / "tests" / "drive" / f"{name}.c"
+    subprocess.run([os.environ.get("CC", "cc"), "-O1", "-shared", "-fPIC", *flags, "-o", library, source], check=True)
+    return str(library)
+
+
+def busy_time():
+    """How long the processor took for all that was started and has ended."""
+    used = resource.getrusage(resource.RUSAGE_CHILDREN)
+    return used.ru_utime + used.ru_stime
+
+
+def all_of(terminal):
+    """What was written to a terminal, until nobody has it open any longer."""
+    pieces = []
+    with contextlib.suppress(OSError):
+        while piece := os.read(terminal, 4096):
+            pieces.append(piece)
+    os.close(terminal)
+    return b"".join(pieces)
 
 
 def refused(fault):

@@ -19,7 +19,7 @@ import tempfile
 from concurrent.futures import ThreadPoolExecutor
 
 sys.dont_write_bytecode = True
-from programs import JOURNALS as EXAMPLES, ROOT, Count, said
+from programs import JOURNALS as EXAMPLES, ROOT, Count, build_library, said
 
 MOST_REFUSALS = 10000
 NO_MEMORY = 1, b'', b'chanhub: out of memory\n'
@@ -53,9 +53,7 @@ class Refuser:
 
     def __init__(self, work):
         self.work = work
-        self.library = os.path.join(work, 'refuse.so')
-        flags = ['-O1', '-shared', '-fPIC', '-fno-builtin', '-o', self.library]
-        subprocess.run([os.environ.get('CC', 'cc'), *flags, ROOT / 'tests' / 'drive' / 'refuse.c'], check=True)
+        self.library = build_library(work, 'refuse', '-fno-builtin')
 
     def run(self, words, number, which='REFUSE', given=b'', after='0'):
         """The status of a run with this one refused of what `which` counts, and what it wrote; and whether one was refused."""

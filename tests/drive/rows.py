@@ -11,7 +11,7 @@ import tempfile
 
 sys.dont_write_bytecode = True
 import programs
-from programs import ROOT, count_checks, refused, said, table
+from programs import ROOT, build_library, count_checks, refused, said, table
 from theorems import theorems
 
 PROGRAM = os.path.abspath(sys.argv[1] if len(sys.argv) > 1 else os.path.join(ROOT, 'crates', 'chanhub', 'out', 'chanhub'))
@@ -347,14 +347,6 @@ def run_by_devices(library, at_most, text, **wrong):
     """The status and what was written, of a replay of this text by devices that give and take so many bytes a call."""
     how = {'LD_PRELOAD': library, 'AT_MOST': str(at_most), **{name: str(number) for name, number in wrong.items()}}
     return said(['chanhub', 'replay'], text, executable=PROGRAM, env={**os.environ, **how})
-
-
-def build_library(folder, name):
-    """The library of this source in C, to stand before a program's own."""
-    library = os.path.join(folder, name + '.so')
-    source = os.path.join(ROOT, 'tests', 'drive', name + '.c')
-    subprocess.run([os.environ.get('CC', 'cc'), '-O1', '-shared', '-fPIC', '-o', library, source], check=True)
-    return library
 
 
 def small_devices(folder):

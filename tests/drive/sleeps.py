@@ -2,14 +2,13 @@
 """sleeps.py [PROGRAM]: runs scenarios by the built program in which a thread waits for a second, for a value or for the lock of the
 hub, and looks how much of the processor that takes: who waits has to sleep. The last line counts: 'N passed, M failed'."""
 import os
-import resource
 import sys
 import tempfile
 import time
 
 sys.dont_write_bytecode = True
-from programs import Count, said
-from rows import PROGRAM, build_library
+from programs import Count, build_library, busy_time, said
+from rows import PROGRAM
 
 # A run takes some hundredths of a second of the processor; a wait that does not sleep takes a whole one.
 MOST_BUSY = 0.5
@@ -24,12 +23,6 @@ ROWS = {
     # At some step the journal grows slowly, under the lock.
     'lock': ({'SLOW_GROWTH': '1000000'}, SELECTS, ''),
 }
-
-
-def busy_time():
-    """How much of the processor all runs before took, in seconds."""
-    used = resource.getrusage(resource.RUSAGE_CHILDREN)
-    return used.ru_utime + used.ru_stime
 
 
 def run(library, slow, scenario):

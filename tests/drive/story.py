@@ -3,7 +3,6 @@
 windows, and compares each text with the one that story_model.py writes. Runs the rows of tests/stories.toml and
 tests/faulty_journals.toml too, and stories with each allocation refused, which needs a C compiler. The last line counts:
 'N passed, M failed'."""
-import contextlib
 import gc
 import os
 import pathlib
@@ -71,13 +70,7 @@ class Program:
             os.close(terminal)
             child.stdin.write(journal)
             child.stdin.close()
-            pieces = []
-            # A terminal that nobody writes to any longer is one that can't be read.
-            with contextlib.suppress(OSError):
-                while piece := os.read(reader, 4096):
-                    pieces.append(piece)
-        os.close(reader)
-        return b"".join(pieces)
+            return programs.all_of(reader)
 
     def run_to_full(self, words, journal=b""):
         """The status and what was written to standard error, where standard output takes nothing."""

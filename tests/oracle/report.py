@@ -3,14 +3,9 @@
 
 PROGRAM is the built chanhub, whose replay gives the events. A file that does not begin as a journal is its own report.
 """
-import collections
-import pathlib
+import re
 import subprocess
 import sys
-
-sys.dont_write_bytecode = True
-sys.path.insert(0, str(pathlib.Path(__file__).resolve().parents[2] / 'tools'))
-from walk import Entry
 
 
 class Port:
@@ -24,29 +19,39 @@ class Port:
         return f'port {number} cap {self.cap} sent {self.sent} received {self.received} left {left} sum {self.sum} {self.end}\n'
 
 
-def report_of(lines, events):
+def ports_of(fields):
+    """By case, the port of an entry that is a call; of a close its port."""
+    if fields[1] == 'select':
+        return [int(re.match(r'[sr](\d+)', it)[1]) for it in fields[3:] if it != 'default']
+    return [int(fields[2])] if fields[1] in ('send', 'recv', 'close') else []
+
+
+def report_of(entries, events):
     """The report of a journal with these lines and these events: each process is told of its entries in their order."""
-    asked, ports, told = collections.defaultdict(collections.deque), [], collections.Counter()
-    for place, line in enumerate(lines):
-        asked[line.split(' ')[0]].append(Entry(place, line))
-    for event in events:
-        pid, words = event.split(' ', 1)
-        if words == 'parked':
+    asked = {}
+    for line in entries:
+        fields = line.split(' ')
+        asked.setdefault(fields[0], []).append(fields)
+    ports, stalled, faults = {}, 0, 0
+    for line in events:
+        pid, what, *rest = line.split(' ')
+        entry = asked[pid][0]
+        if what == 'parked':
             continue
-        entry = asked[pid].popleft()
-        entry.end = words
-        told[words.split(' ')[0]] += 1
-        if words.startswith('made'):
-            ports.append(Port(entry.asked))
-        elif words == 'done' and entry.word == 'close':
-            ports[entry.asked - 1].end = 'closed'
-        elif entry.fired:
-            port, (what, *value) = ports[entry.fired[1] - 1], entry.outcome.split(' ')
-            port.sent += what == 'sent'
-            port.received += what == 'got'
-            port.sum += sum(int(text) for text in value if not text.startswith('#'))
-    counts = [f'{name} {told[word]}\n' for name, word in (('stalled', 'stalled'), ('faults', 'fault')) if told[word]]
-    return ''.join([port.line(number) for number, port in enumerate(ports, 1)] + counts)
+        asked[pid].pop(0)
+        if what == 'made':
+            ports[int(rest[0])] = Port(entry[2])
+        elif what == 'case' and rest[1] in ('sent', 'got'):
+            port = ports[ports_of(entry)[int(rest[0])]]
+            port.sent += rest[1] == 'sent'
+            port.received += rest[1] == 'got'
+            port.sum += int(rest[2]) if rest[1] == 'got' and not rest[2].startswith('#') else 0
+        elif what == 'done' and entry[1] == 'close':
+            ports[ports_of(entry)[0]].end = 'closed'
+        stalled += what == 'stalled'
+        faults += what == 'fault'
+    counts = [f'{name} {count}\n' for name, count in (('stalled', stalled), ('faults', faults)) if count]
+    return ''.join([ports[number].line(number) for number in sorted(ports)] + counts)
 
 
 def main():

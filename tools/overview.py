@@ -143,12 +143,16 @@ def drawing(data):
     yield "</svg>"
 
 
-def main():
-    model.help_if_asked(__doc__)
+def read(about):
+    """The journal that a script is given, whose words stand in the second part of what is said about it."""
+    model.help_if_asked(about)
     if len(sys.argv) != 2 or sys.argv[1].startswith("-"):
-        sys.exit(__doc__.split("\n\n")[1])
-    data = Overview(model.lines_of(sys.argv[1]))
-    print("\n".join(drawing(data)))
+        sys.exit(about.split("\n\n")[1])
+    return Overview(model.lines_of(sys.argv[1]))
+
+
+def main():
+    print("\n".join(drawing(read(__doc__))))
 
 
 if __name__ == "__main__":

@@ -9,7 +9,6 @@ waits. A window has 60 steps, where the journal has them; what overlaps is one.
 import sys
 
 sys.dont_write_bytecode = True
-import model
 import overview
 
 STEPS = 60
@@ -37,11 +36,7 @@ def windows(data):
 
 
 def main():
-    model.help_if_asked(__doc__)
-    if len(sys.argv) != 2 or sys.argv[1].startswith("-"):
-        sys.exit(__doc__.split("\n\n")[1])
-    data = overview.Overview(model.lines_of(sys.argv[1]))
-    for first, last in windows(data):
+    for first, last in windows(overview.read(__doc__)):
         print(first + 1, last + 1)
 
 

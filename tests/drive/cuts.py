@@ -114,10 +114,8 @@ class Cutter:
 
     def what_fails(self, seed, third):
         """What is wrong with the cuts of this journal, or nothing."""
-        lines = Journal(seed, 0, third).text().splitlines()
-        head, lines = lines[:2], lines[2:]
-        draw = random.Random(seed)
-        places = sorted(draw.randint(0, len(lines)) for _ in range(draw.randint(1, MOST_CUTS)))
+        head, lines = journal_of(seed, third)
+        places = places_of(seed, lines)
         hub = new_hub(head)
         chapter, chapter_hub, place = [], new_hub(head), 0
         for cut in places:
@@ -149,11 +147,9 @@ class Chainer:
 
     def what_fails(self, seed, third):
         """What is wrong with the chains of this journal's chapters, or nothing."""
-        lines = Journal(seed, 0, third).text().splitlines()
-        head, lines = lines[:2], admitted(lines[:2], lines[2:])
-        draw = random.Random(seed)
-        places = sorted(draw.randint(0, len(lines)) for _ in range(draw.randint(1, MOST_CUTS)))
-        chapters = dict(enumerate(chapters_of(head, lines, places)))
+        head, lines = journal_of(seed, third)
+        lines = admitted(head, lines)
+        chapters = dict(enumerate(chapters_of(head, lines, places_of(seed, lines))))
         for number, chapter in chapters.items():
             (self.work / str(number)).write_text(''.join(line + '\n' for line in head + chapter))
         for left_out in (None, *chapters):
@@ -165,6 +161,18 @@ class Chainer:
                 return f'without chapter {left_out}: {wanted}, told as {done}'
             self.broken += wanted[0] != 0
         return None
+
+
+def journal_of(seed, third):
+    """The head of a random journal, and its steps."""
+    lines = Journal(seed, 0, third).text().splitlines()
+    return lines[:2], lines[2:]
+
+
+def places_of(seed, lines):
+    """Where it is cut."""
+    draw = random.Random(seed)
+    return sorted(draw.randint(0, len(lines)) for _ in range(draw.randint(1, MOST_CUTS)))
 
 
 def admitted(head, lines):

@@ -42,6 +42,23 @@ def said(words, given=b"", timeout=MINUTE, **how):
     return done.returncode, done.stdout, done.stderr
 
 
+def said_into(stream, file, words, given=b"", **how):
+    """The status, and what was written to the other one of standard output and standard error, where this one is a file."""
+    streams = {"stdout": subprocess.PIPE, "stderr": subprocess.PIPE, stream: file}
+    done = subprocess.run(words, input=given, timeout=MINUTE, **streams, **how)
+    return done.returncode, done.stderr if stream == "stdout" else done.stdout
+
+
+def said_limited(stream, room, words, given=b"", **how):
+    """The same where the file takes so many bytes and no more; and what it took."""
+    # The signal that comes with the first byte too many is ignored here, and so it is in the program.
+    limits = {"restore_signals": False, "preexec_fn": lambda: resource.setrlimit(resource.RLIMIT_FSIZE, (room, room))}
+    with tempfile.TemporaryFile() as file:
+        status, other = said_into(stream, file, words, given, **limits, **how)
+        file.seek(0)
+        return status, other, file.read()
+
+
 def build_library(folder, name, *flags):
     """The library of this source in C, to stand before a program's own."""
     library, source = pathlib.Path(folder) / f"{name}.so", ROOT / "tests" / "drive" / f"{name}.c"

@@ -4,14 +4,12 @@
 The last line counts: 'N passed, M failed'.
 """
 import os
-import resource
-import subprocess
 import sys
 import tempfile
 
 sys.dont_write_bytecode = True
 import programs
-from programs import ROOT, build_library, count_checks, refused, said, table
+from programs import ROOT, build_library, count_checks, refused, said, said_into, said_limited, table
 from theorems import theorems
 
 PROGRAM = os.path.abspath(sys.argv[1] if len(sys.argv) > 1 else os.path.join(ROOT, 'crates', 'chanhub', 'out', 'chanhub'))
@@ -321,23 +319,6 @@ def arguments(folder):
         yield ' '.join(words), run_unasked(words, journal, folder) == refused('bad arguments')
 
 
-def run_into(stream, file, words, text, **how):
-    """The status, and what was written to the other one of standard output and standard error, where this one is a file."""
-    streams = {'stdout': subprocess.PIPE, 'stderr': subprocess.PIPE, stream: file}
-    done = subprocess.run(['chanhub', *words], executable=PROGRAM, input=text, timeout=60, **streams, **how)
-    return done.returncode, done.stderr if stream == 'stdout' else done.stdout
-
-
-def run_limited(stream, room, words, text, folder):
-    """The same where the file takes so many bytes and no more; and what it took."""
-    # The signal that comes with the first byte too many is ignored here, and so it is in the program.
-    how = {'restore_signals': False, 'preexec_fn': lambda: resource.setrlimit(resource.RLIMIT_FSIZE, (room, room))}
-    with tempfile.TemporaryFile(dir=folder) as file:
-        status, other = run_into(stream, file, words, text, **how)
-        file.seek(0)
-        return status, other, file.read()
-
-
 JOURNAL = b'chanhub journal 1\nprocs 2\n0 make 2\n0 send 1 10\n0 send 1 11\n1 recv 1\n'
 EVENTS = b'0 made 1\n0 case 0 sent\n0 case 0 sent\n1 case 0 got 10\n'
 FAILED_WRITE = b'chanhub: write failed\n'
@@ -373,15 +354,15 @@ def devices(folder):
     stalls = b'ports = [0]\n[[process]]\nsteps = ["send 1 1"]\n[[process]]\nsteps = ["send 1 2"]\n'
     bad_header = b'chanhub: line 1: bad header\n'
     for room in range(len(EVENTS)):
-        told = run_limited('stdout', room, ['replay'], JOURNAL, folder)
+        told = said_limited('stdout', room, ['chanhub', 'replay'], JOURNAL, executable=PROGRAM)
         yield 'an output with room for %d bytes' % room, told == (1, FAILED_WRITE, EVENTS[:room])
     for room in range(len(bad_header)):
-        told = run_limited('stderr', room, ['replay'], b'', folder)
+        told = said_limited('stderr', room, ['chanhub', 'replay'], executable=PROGRAM)
         yield 'standard error with room for %d bytes' % room, told == (2, b'', bad_header[:room])
     with open('/dev/full', 'wb') as full:
         for words, text in ((['replay'], JOURNAL), (['run'], stalls), (['run', '--journal'], stalls)):
-            yield ' '.join(words) + ' to a full device', run_into('stdout', full, words, text) == (1, FAILED_WRITE)
-        yield 'a fault line to a full device', run_into('stderr', full, ['replay'], b'') == (2, b'')
+            yield ' '.join(words) + ' to a full device', said_into('stdout', full, ['chanhub', *words], text, executable=PROGRAM) == (1, FAILED_WRITE)
+        yield 'a fault line to a full device', said_into('stderr', full, ['chanhub', 'replay'], executable=PROGRAM) == (2, b'')
     for words in (['replay'], ['run']):
         unreadable = os.open(folder, os.O_RDONLY)
         answer = said(['chanhub', *words], executable=PROGRAM, stdin=unreadable)

@@ -8,7 +8,6 @@ import os
 import pathlib
 import pty
 import random
-import resource
 import subprocess
 import sys
 import tempfile
@@ -16,7 +15,7 @@ import tty
 
 sys.dont_write_bytecode = True
 import programs
-from programs import JOURNALS, MINUTE, ROOT, examples, refused, table
+from programs import JOURNALS, ROOT, examples, refused, table
 from random_journal import Journal
 from refusals import NO_MEMORY, Refuser
 from story_model import Story
@@ -75,17 +74,11 @@ class Program:
     def run_to_full(self, words, journal=b""):
         """The status and what was written to standard error, where standard output takes nothing."""
         with open("/dev/full", "wb") as full:
-            done = subprocess.run([self.path, *words], input=journal, stdout=full, stderr=subprocess.PIPE, timeout=MINUTE)
-        return done.returncode, done.stderr
+            return programs.said_into("stdout", full, [self.path, *words], journal)
 
     def run_to_short(self, words, journal, most):
         """The status, what was written to standard error, and to a file that has room for so many bytes."""
-        with tempfile.TemporaryFile() as text:
-            # A signal that is ignored here stays so: else the first write past the end would end the program.
-            how = {"preexec_fn": lambda: resource.setrlimit(resource.RLIMIT_FSIZE, (most, most)), "restore_signals": False}
-            done = subprocess.run([self.path, *words], input=journal, stdout=text, stderr=subprocess.PIPE, timeout=MINUTE, **how)
-            text.seek(0)
-            return done.returncode, done.stderr, text.read()
+        return programs.said_limited("stdout", most, [self.path, *words], journal)
 
     def run_on_folder(self, words):
         """The same as of `run`, where standard input is a folder, of which nothing can be read."""

@@ -9,7 +9,7 @@ import subprocess
 import sys
 
 sys.dont_write_bytecode = True
-from programs import JOURNALS, MINUTE as WAIT, Count, examples, faulty_journals, said
+from programs import JOURNALS, MINUTE as WAIT, count_checks, examples, faulty_journals, said
 from random_journal import Journal
 
 
@@ -114,26 +114,20 @@ def broken(journal, draw):
     ))
 
 
-def main():
-    program, tool = sys.argv[1:3]
-    count = Count()
+def checks(program, tool, _):
     draw = random.Random(1)
     journals = [(path.name, path.read_bytes()) for path in examples(JOURNALS)]
     journals += [(f"random journal {seed}", Journal(seed, 118).text().encode()) for seed in range(101, 107)]
-    checks = []
     for name, journal in journals:
-        checks.append((f"{name} by lines", lambda j=journal: converses_by_lines(program, tool, j)))
-        checks.append((f"{name} by pieces", lambda j=journal: converses_by_pieces(program, tool, j, draw)))
-        checks.append((f"{name} at once", lambda j=journal: converses_at_once(program, tool, j)))
+        yield f"{name} by lines", converses_by_lines(program, tool, journal)
+        yield f"{name} by pieces", converses_by_pieces(program, tool, journal, draw)
+        yield f"{name} at once", converses_at_once(program, tool, journal)
         for nth in range(8):
-            checks.append((f"{name} broken {nth}", lambda j=broken(journal, draw): converses_at_once(program, tool, j)))
+            yield f"{name} broken {nth}", converses_at_once(program, tool, broken(journal, draw))
     for name, journal, _ in faulty_journals():
-        checks.append((f"faulty journal {name}", lambda j=journal.encode(): converses_at_once(program, tool, j)))
-    checks.append(("no byte", lambda: converses_at_once(program, tool, b"")))
-    for name, check in checks:
-        count.test(name, check())
-    return count.end()
+        yield f"faulty journal {name}", converses_at_once(program, tool, journal.encode())
+    yield "no byte", converses_at_once(program, tool, b"")
 
 
 if __name__ == "__main__":
-    sys.exit(main())
+    sys.exit(count_checks([checks], *sys.argv[1:3]))

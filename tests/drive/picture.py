@@ -449,12 +449,11 @@ def check_picture(picture, journal, first, end):
     whoms_agree(root, whoms(journal, bands), journal, bands)
     marks_agree(root, journal)
     legend_agrees(root, legend(journal, bands))
-    rows = [row.text for row in root.iter(SVG + "tspan") if row.get("class") == "waits"]
-    assert rows == [row for row, *_ in waits(journal, bands)], f"those who wait: {rows}"
-    others = [row.text for row in root.iter(SVG + "tspan") if row.get("class") == "outside"]
-    assert others == [*outside(journal, bands)], f"those who are outside: {others}"
-    dead = [row.text for row in root.iter(SVG + "tspan") if row.get("class") == "dead"]
-    assert dead == ["deadlock: everyone who is left waits"] * any(stalls(journal, bands)), f"deadlock: {dead}"
+    is_dead = any(stalls(journal, bands))
+    for kind, wanted in (("waits", [row for row, *_ in waits(journal, bands)]), ("outside", [*outside(journal, bands)]),
+                         ("dead", ["deadlock: everyone who is left waits"] * is_dead)):
+        rows = [row.text for row in root.iter(SVG + "tspan") if row.get("class") == kind]
+        assert rows == wanted, f"rows of {kind}: {rows}"
     lanes_agree(root, journal, bands)
     levels_agree(root, journal, bands)
     places_agree(root)
@@ -585,7 +584,8 @@ def check_times(count, program):
         count.run(f"{where} of the longest journal, of 63 who wait", lambda: is_soon(program, journal, steps, first))
 
 
-# ---- who has left
+# ---- all of it
+
 
 def check_left(count, program):
     """At the stall, and where calls wait in the end since process 3 does not exit."""
@@ -595,9 +595,6 @@ def check_left(count, program):
         journal = Journal(text)
         told = [row for row, *_ in waits(journal, Bands(0, len(journal.entries))) if "have left" in row]
         count.test(f"{name}: in one row", len(told) == 1 and told[0].startswith("P0 has waited since step 16 to send on port 1;"), told)
-
-
-# ---- all of it
 
 
 def check_journal(count, program, name, text, by_windows=True):

@@ -64,43 +64,34 @@ def journals(folder):
                 yield '%s in edition %d' % (row['name'], later), again == (0, row['events'].encode(), b'')
 
 
+def each(text, values):
+    """The text for each of these values, which stands for N."""
+    return ''.join(text.replace('N', str(value)) for value in values)
+
+
 def long_rows():
     """Journals that are made here, each by its name: of so many processes, the steps and the events."""
-    makes = '0 make 0\n' * 64
-    made = ''.join('0 made %d\n' % port for port in range(1, 65))
-    everyone = range(64)
-    others = range(1, 64)
+    makes, made = '0 make 0\n' * 64, each('0 made N\n', range(1, 65))
+    everyone, others, values = range(64), range(63, 0, -1), range(1, 101)
     return {
         'sixty_four_ports_at_most': (1, makes + '0 make 0\n', made + '0 fault 7\n'),
         # Each select ends at its second case, and leaves nothing behind at the port of its first.
         'hundred_selects_end_once': (
-            2,
-            '0 make 0\n' * 2
-            + ''.join('1 select 0 r1 r2\n0 send 2 %d\n' % value for value in range(1, 101))
-            + '1 select 0 r1 r2\n0 send 1 7\n',
-            '0 made 1\n0 made 2\n'
-            + ''.join('1 parked\n0 case 0 sent\n1 case 1 got %d\n' % value for value in range(1, 101))
-            + '1 parked\n0 case 0 sent\n1 case 0 got 7\n',
+            2, '0 make 0\n' * 2 + each('1 select 0 r1 r2\n0 send 2 N\n', values) + '1 select 0 r1 r2\n0 send 1 7\n',
+            '0 made 1\n0 made 2\n' + each('1 parked\n0 case 0 sent\n1 case 1 got N\n', values) + '1 parked\n0 case 0 sent\n1 case 0 got 7\n',
         ),
         # The last of 64 senders parks, and all stall: 65 events of one step.
         'sixty_four_stall_at_once': (
-            64,
-            makes + ''.join('%d send %d %d\n' % (pid, pid + 1, pid + 1) for pid in everyone),
-            made + ''.join('%d parked\n' % pid for pid in everyone) + ''.join('%d stalled\n' % pid for pid in everyone),
+            64, makes + ''.join(f'{pid} send {pid + 1} {pid + 1}\n' for pid in everyone),
+            made + each('N parked\n', everyone) + each('N stalled\n', everyone),
         ),
         # All others are told, in the order in which they came.
         'sixty_three_receive_and_one_closes': (
-            64,
-            '0 make 0\n' + ''.join('%d recv 1\n' % pid for pid in reversed(others)) + '0 close 1\n',
-            '0 made 1\n'
-            + ''.join('%d parked\n' % pid for pid in reversed(others))
-            + '0 done\n'
-            + ''.join('%d case 0 drained\n' % pid for pid in reversed(others)),
+            64, '0 make 0\n' + each('N recv 1\n', others) + '0 close 1\n',
+            '0 made 1\n' + each('N parked\n', others) + '0 done\n' + each('N case 0 drained\n', others),
         ),
         'greatest_capacity_at_the_last_port': (
-            1,
-            '0 make 0\n' * 63 + '0 make 1024\n' + ''.join('0 send 64 %d\n' % value for value in range(1025)),
-            made + '0 case 0 sent\n' * 1024 + '0 parked\n0 stalled\n',
+            1, '0 make 0\n' * 63 + '0 make 1024\n' + each('0 send 64 N\n', range(1025)), made + '0 case 0 sent\n' * 1024 + '0 parked\n0 stalled\n',
         ),
     }
 

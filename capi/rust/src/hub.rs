@@ -23,8 +23,8 @@ const MEMORY_PAUSE: Duration = Duration::from_millis(1);
 /// The most cases that a select has, in a hub of any edition.
 pub(crate) const MOST_CASES: usize = 16;
 
-/// The most values that a call receives.
-const MOST_VALUES: usize = 1024;
+/// The most values that a call receives: a full buffer, and what all others wait to send.
+const MOST_VALUES: usize = 1024 + 63;
 
 /// The most cases for which a select clears so few places that this needs no call.
 const FEW_CASES: usize = 4;

@@ -568,7 +568,7 @@ impl<'a, T> BoundReceiver<'a, T> {
             .map(|number| channel.take(number))
     }
 
-    /// Receives up to `most` values, but never more than 1,024. Waits for the first one, then takes more while the buffer holds any. A
+    /// Receives up to `most` values, but never more than 1,087. Waits for the first one, then takes more while the buffer holds any. A
     /// value for which it had to wait comes alone.
     ///
     /// ```

@@ -1,4 +1,4 @@
-"""What the drivers share: where things stand, tables of rows and journals, what programs say, and how checks are counted."""
+"""What the drivers share: where modules and examples stand, tables of rows, what programs say, and how checks are counted."""
 import contextlib
 import os
 import pathlib

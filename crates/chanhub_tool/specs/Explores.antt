@@ -4,15 +4,19 @@ use Rattle.std.specs.Io.KnownBytes.{Consumes, IsAtEnd}
 use Rattle.hub_base.specs.Journal.{JournalView}
 use Rattle.hub_base.specs.Reading.{text}
 use Rattle.hub_replay.specs.declared.fault.ReplayFault.TheVariants as replay
-use Rattle.hub_runner.specs.Reports.{is_stalled}
 use Rattle.hub_scenario.specs.declared.fault.ScenarioFault.{ScenarioFault}
 use Rattle.hub_scenario.specs.declared.limits.TheConstants.{MOST_FILE_BYTES}
 use Rattle.hub_scenario.specs.Scenario.{ScenarioData, reading}
-use Rattle.hub_explore.specs.Never.{NeverTells, NoRunTells}
-use Rattle.hub_explore.specs.Answers.{HasMany}
-use Rattle.hub_explore.specs.Runs.{Shows}
+use Rattle.hub_explore.specs.declared.exploring.Explored.{Explored}
+use Rattle.hub_explore.specs.declared.exploring.Explored.TheVariants as explored
+use Rattle.hub_explore.specs.declared.question.Question.TheVariants.{Stall, Closed, Fault}
+use Rattle.hub_explore.specs.Answers.{Says}
+use Rattle.hub_explore.specs.Leftovers.{SaysOfValues}
+use Rattle.hub_explore.specs.Questions.{asked_of}
+use Rattle.chanhub_tool.specs.declared.commands.explore.ask.Ask.{Ask}
+use Rattle.chanhub_tool.specs.declared.commands.explore.ask.Ask.TheVariants.{Event, Left}
 use Rattle.chanhub_tool.specs.declared.commands.explore.Verdict.{Verdict}
-use Rattle.chanhub_tool.specs.declared.commands.explore.Verdict.TheVariants.{NoStall, Stall, GaveUp}
+use Rattle.chanhub_tool.specs.declared.commands.explore.Verdict.TheVariants.{Never, Found, GaveUp}
 use Rattle.chanhub_tool.specs.declared.commands.explore.Unexplored.{Unexplored}
 use Rattle.chanhub_tool.specs.declared.commands.explore.Unexplored.TheVariants.{Malformed, Failed}
 
@@ -35,13 +39,26 @@ pub record ReadsMalformed (unread left : Option (List ℕ)) : Type 0 where
   pub read : ReadsAll unread left bytes
   pub said : reading bytes ≡ Err fault
 
--- ---- what is printed
-abbrev pub never_line : ℕ → ℕ → List ℕ
-never_line states steps =
-    codes "no stall: " ++ decimal states ++ (codes " states, " ++ decimal steps ++ codes " steps between them\n")
+-- ---- what is asked
+-- what an answer says of all runs: of the events on their way, or of the values that are left where they end
+abbrev pub Answers : Ask → ScenarioData → ℕ → Explored → Type 0
+Answers (Event question) s most answer = Says (asked_of question) s most answer
+Answers Left s most answer = SaysOfValues s most answer
 
-abbrev pub stall_line : ℕ → List ℕ
-stall_line steps = codes "stall after " ++ decimal steps ++ codes " steps\n"
+-- ---- what is printed
+-- the words for what is asked
+abbrev pub subject_of : Ask → List ℕ
+subject_of (Event Stall) = codes "stall"
+subject_of (Event Closed) = codes "send on a closed port"
+subject_of (Event Fault) = codes "fault"
+subject_of Left = codes "value left"
+
+abbrev pub never_line : Ask → ℕ → ℕ → List ℕ
+never_line ask states steps =
+    codes "no " ++ subject_of ask ++ (codes ": " ++ decimal states ++ (codes " states, " ++ decimal steps ++ codes " steps between them\n"))
+
+abbrev pub found_line : Ask → ℕ → List ℕ
+found_line ask steps = subject_of ask ++ (codes " after " ++ decimal steps ++ codes " steps\n")
 
 abbrev pub gave_up_line : ℕ → List ℕ
 gave_up_line states = codes "gave up after " ++ decimal states ++ codes " states\n"
@@ -51,28 +68,27 @@ abbrev pub kept : Bool → JournalView → List ℕ
 kept keeps j = if keeps then text j.head j.entries else []
 
 -- ---- what it says
--- no run of the scenario stalls, under way or whole, and this is printed
-pub record NeverStalls (s : ScenarioData) (Prints : List ℕ → Type 0) : Type 0 where
-  pub under_way : NeverTells is_stalled s
-  pub whole : NoRunTells is_stalled s
+-- no run of the scenario does what is asked for, and this is printed
+pub record DoesNever (ask : Ask) (s : ScenarioData) (most : ℕ) (Prints : List ℕ → Type 0) : Type 0 where
   pub states : ℕ
   pub steps : ℕ
-  pub printed : Prints (never_line states steps)
+  pub never : Answers ask s most (explored.Never states steps)
+  pub printed : Prints (never_line ask states steps)
 
--- this run of the scenario stalls: how many entries stand behind the makes of its ports is printed, and it is written
-pub record Stalls (s : ScenarioData) (keeps : Bool) (Prints Writes : List ℕ → Type 0) : Type 0 where
+-- this run of the scenario does it: how many entries stand behind the makes of its ports is printed, and it is written
+pub record Does (ask : Ask) (s : ScenarioData) (most : ℕ) (keeps : Bool) (Prints Writes : List ℕ → Type 0) : Type 0 where
   pub journal : JournalView
-  pub shows : Shows is_stalled s journal
+  pub found : Answers ask s most (explored.Found journal)
   pub steps : ℕ
   pub counted : length s.ports + steps ≡ length journal.entries
-  pub printed : Prints (stall_line steps)
+  pub printed : Prints (found_line ask steps)
   pub written : Writes (kept keeps journal)
 
--- what is found, printed and written: nothing is written but the journal of a run that stalls
-abbrev pub Finds : Verdict → ScenarioData → ℕ → Bool → (Prints Writes : List ℕ → Type 0) → (WritesNone : Type 0) → Type 0
-Finds NoStall s most keeps Prints Writes WritesNone = NeverStalls s Prints × WritesNone
-Finds Stall s most keeps Prints Writes WritesNone = Stalls s keeps Prints Writes
-Finds GaveUp s most keeps Prints Writes WritesNone = HasMany is_stalled s most × Prints (gave_up_line most) × WritesNone
+-- what is found, printed and written: nothing is written but the journal of a run that does what is asked for
+abbrev pub Finds : Verdict → Ask → ScenarioData → ℕ → Bool → (Prints Writes : List ℕ → Type 0) → (WritesNone : Type 0) → Type 0
+Finds Never ask s most keeps Prints Writes WritesNone = DoesNever ask s most Prints × WritesNone
+Finds Found ask s most keeps Prints Writes WritesNone = Does ask s most keeps Prints Writes
+Finds GaveUp ask s most keeps Prints Writes WritesNone = Answers ask s most explored.TooMany × Prints (gave_up_line most) × WritesNone
 
 -- ---- why it says nothing
 -- why these bytes are not explored

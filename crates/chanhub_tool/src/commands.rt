@@ -57,8 +57,8 @@ const ABOUT: &str =
 
 const STATUSES: &str = "\
 Status 0: done. 1: a device or memory failed. 2: a malformed journal or scenario, steps that a journal does not have,\n\
-or bad arguments. Standard error says which. 3: the chapters are no chain. 4: some run of the scenario stalls. 5: it has\n\
-too many states. The program needs 256 KB of stack.";
+or bad arguments. Standard error says which. 3: the chapters are no chain. 4: some run of the scenario stalls, or does\n\
+what is asked for. 5: it has too many states. The program needs 256 KB of stack.";
 
 /// Adds the first commands. They are added some at a time, since the proof of a function takes ever longer the
 /// more errors it may return with commands in its hands.

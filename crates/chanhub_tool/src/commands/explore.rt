@@ -1,21 +1,24 @@
-//! `chanhub_tool explore [SCENARIO] [--states N] [--journal FILE]`.
+//! `chanhub_tool explore [SCENARIO] [--ask WHAT] [--states N] [--journal FILE]`.
+
+mod ask;
 
 ghost use Rattle.std.specs.Prelude.{◌≡◌, ◌≤◌, ◌⊎◌, ◌+◌, length, Ok, IfOk, IfErr, OnOk};
 ghost use Rattle.std.specs.Io.KnownBytes.{Appends};
 ghost use Rattle.hub_replay.specs.declared.fault.ReplayFault.{ReplayFault};
 ghost use Rattle.hub_scenario.specs.Scenario.{ScenarioData, reading, run_head, scenario_view};
 ghost use Rattle.chanhub_tool.specs.declared.commands.explore.Unexplored.TheVariants.{Failed};
-ghost use Rattle.chanhub_tool.specs.declared.commands.explore.Verdict.TheVariants.{NoStall, Stall, GaveUp};
+ghost use Rattle.chanhub_tool.specs.declared.commands.explore.Verdict.TheVariants.{Never, Found, GaveUp};
 ghost use Rattle.chanhub_tool.specs.Explores.{Finds, IsRefusedFor, IsUnexplored, ReadsMalformed, ReadsScenario};
-ghost use Rattle.chanhub_tool.specs.Explores.{gave_up_line, kept, never_line, stall_line};
+ghost use Rattle.chanhub_tool.specs.Explores.{found_line, gave_up_line, kept, never_line};
 
 use crate::files::{Input, Output, file_of, tell_unopened};
 use crate::given::optional;
 use crate::limits::{DEFAULT_STATES, MOST_STATES};
 use crate::progress::Progress;
+use ask::{Ask, ask_option, read_ask};
 use clap::{Arg, ArgMatches, Command};
 use hub_base::{Journal, NoMemory};
-use hub_explore::{Explored, Question, Watch, explore_watched};
+use hub_explore::{Explored, Watch};
 use hub_replay::{
     Counted, ReplayFault, Sink, Source, WriteFailed, read_up_to, tell_fault, write_pieces,
     write_whole,
@@ -30,9 +33,11 @@ use std::alloc::{AllocError, Global};
 pub(crate) struct Exploring<'a> {
     /// The file that holds the scenario; standard input where there is none.
     scenario: Option<&'a str>,
+    /// What is asked of its runs.
+    ask: Ask,
     /// The most states that are gone through.
     most_states: u32,
-    /// Where the journal of a run that stalls is to be written, if anywhere; `-` is standard output.
+    /// Where the journal of a run that is found is to be written, if anywhere; `-` is standard output.
     journal: Option<&'a str>,
 }
 
@@ -60,7 +65,7 @@ fn journal_option<'a>(alloc: Global) -> Arg<'a> {
         alloc,
         "journal",
         "FILE",
-        "Where the journal of a run that stalls is written; - is standard output",
+        "Where the journal of a run that is found is written; - is standard output",
     )
     .long("journal")
 }
@@ -68,14 +73,17 @@ fn journal_option<'a>(alloc: Global) -> Arg<'a> {
 pub(super) fn grammar<'a>(alloc: Global) -> Result<Command<'a>, AllocError> {
     Command::new(alloc, "explore")
         .about(
-            "Goes through all runs of a scenario, whatever the order of their steps and the choices of their selects, to find one that stalls",
+            "Goes through all runs of a scenario, whatever the order of their steps and the choices of their selects, to find one that stalls, or does what is asked for",
         )
         .after_help(
-            "Prints `no stall` and how many states there are; or, with status 4, after how many steps a run stalls; or, with\n\
-             status 5, after how many states it gave up. The scenario's seed and limit play no part.",
+            "Prints `no stall`, `no fault` and so on, and how many states there are; or, with status 4, after how many steps of a\n\
+             run it comes; or, with status 5, after how many states it gave up. The scenario's seed and limit play no part.",
         )
-        .override_usage("chanhub_tool explore [SCENARIO] [--states N] [--journal FILE]")
+        .override_usage(
+            "chanhub_tool explore [SCENARIO] [--ask WHAT] [--states N] [--journal FILE]",
+        )
         .arg(scenario_argument(alloc))?
+        .arg(ask_option(alloc))?
         .arg(states_option(alloc))?
         .arg(journal_option(alloc))
 }
@@ -96,6 +104,7 @@ pub(super) fn read_exploring<'a>(found: &ArgMatches<'a>) -> Option<Exploring<'a>
     };
     Some(Exploring {
         scenario: file_of(found.get_str("scenario")),
+        ask: read_ask(found.get_str("ask")),
         most_states,
         journal: found.get_str("journal"),
     })
@@ -104,10 +113,10 @@ pub(super) fn read_exploring<'a>(found: &ArgMatches<'a>) -> Option<Exploring<'a>
 /// What came of it, once it is printed.
 #[derive(Clone, Copy)]
 enum Verdict {
-    /// No run stalls.
-    NoStall,
+    /// No run does what is asked for.
+    Never,
     /// Some run does.
-    Stall,
+    Found,
     /// There are too many states, or the run found is too long for a journal.
     GaveUp,
 }
@@ -168,16 +177,23 @@ fn text_of(
     Ok(text)
 }
 
-fn write_never<W: Sink>(output: &mut W, states: u64, steps: u64) -> Result<(), WriteFailed>
+fn write_never<W: Sink>(
+    output: &mut W,
+    ask: Ask,
+    states: u64,
+    steps: u64,
+) -> Result<(), WriteFailed>
     ensures { OnOk result
-        (Appends (W.contents output.old) (W.contents output.new) (never_line states steps)) }
+        (Appends (W.contents output.old) (W.contents output.new) (never_line ask states steps)) }
 {
     let mut states_digits = Buffer::new();
     let mut steps_digits = Buffer::new();
     write_pieces(
         output,
         &[
-            "no stall: ",
+            "no ",
+            ask.subject(),
+            ": ",
             states_digits.format(states),
             " states, ",
             steps_digits.format(steps),
@@ -186,11 +202,14 @@ fn write_never<W: Sink>(output: &mut W, states: u64, steps: u64) -> Result<(), W
     )
 }
 
-fn write_stall<W: Sink>(output: &mut W, steps: u64) -> Result<(), WriteFailed>
-    ensures { OnOk result (Appends (W.contents output.old) (W.contents output.new) (stall_line steps)) }
+fn write_found<W: Sink>(output: &mut W, ask: Ask, steps: u64) -> Result<(), WriteFailed>
+    ensures { OnOk result (Appends (W.contents output.old) (W.contents output.new) (found_line ask steps)) }
 {
     let mut digits = Buffer::new();
-    write_pieces(output, &["stall after ", digits.format(steps), " steps\n"])
+    write_pieces(
+        output,
+        &[ask.subject(), " after ", digits.format(steps), " steps\n"],
+    )
 }
 
 fn write_gave_up<W: Sink>(output: &mut W, states: u32) -> Result<(), WriteFailed>
@@ -214,6 +233,7 @@ fn steps_of(scenario: &Scenario, journal: &Journal) -> u64
 /// Goes through the runs of the scenario that `input` holds, and prints what was found.
 fn explore_from<S: Source, W: Sink, J: Sink, P: Watch>(
     alloc: Global,
+    ask: Ask,
     most_states: u32,
     keeps: bool,
     input: &mut S,
@@ -223,23 +243,23 @@ fn explore_from<S: Source, W: Sink, J: Sink, P: Watch>(
 ) -> Result<Verdict, Unexplored>
     ensures ok { IfOk result (λ verdict. (s : ScenarioData)
         × ReadsScenario (S.remaining input.old) (S.remaining input.new) s
-        × Finds verdict s most_states keeps (Appends (W.contents output.old) (W.contents output.new))
+        × Finds verdict ask s most_states keeps (Appends (W.contents output.old) (W.contents output.new))
         (Appends (J.contents journal.old) (J.contents journal.new)) (journal.new ≡ journal.old)) }
     ensures err { IfErr result (λ why. IsUnexplored why (S.remaining input.old) (S.remaining input.new)
         ((output.new ≡ output.old) × (journal.new ≡ journal.old))) }
 {
     let scenario = read_from(alloc, input)?;
-    let explored = explore_watched(alloc, &scenario, Question::Stall, most_states, progress)?;
+    let explored = ask.explore(alloc, &scenario, most_states, progress)?;
     match explored {
         Explored::Never { states, steps } => {
-            write_never(output, states, steps)?;
-            Ok(Verdict::NoStall)
+            write_never(output, ask, states, steps)?;
+            Ok(Verdict::Never)
         }
         Explored::Found(found) => {
             let text = text_of(alloc, &scenario, &found, keeps)?;
-            write_stall(output, steps_of(&scenario, &found))?;
+            write_found(output, ask, steps_of(&scenario, &found))?;
             write_whole(journal, &text)?;
-            Ok(Verdict::Stall)
+            Ok(Verdict::Found)
         }
         Explored::TooMany => {
             write_gave_up(output, most_states)?;
@@ -262,11 +282,12 @@ fn tell_malformed<X: Sink>(alloc: Global, fault: ScenarioFault, errors: &mut X) 
 }
 
 /// Goes through the runs of the scenario that `input` holds, prints what was found, and answers the status: 0 where no run
-/// stalls; 1 for a device or memory; 2 for a malformed scenario; 4 where some run stalls, the text of whose journal is
-/// written to `journal` if it is to be kept; 5 where there are more states than were to be gone through, or the run found is
-/// longer than a journal may be. `progress` is told how far the search has come.
+/// does what is asked for; 1 for a device or memory; 2 for a malformed scenario; 4 where some run does, the text of whose
+/// journal is written to `journal` if it is to be kept; 5 where there are more states than were to be gone through, or the
+/// run found is longer than a journal may be. `progress` is told how far the search has come, but for values left.
 pub fn explore_scenario<S: Source, W: Sink, J: Sink, P: Watch, X: Sink>(
     alloc: Global,
+    ask: Ask,
     most_states: u32,
     keeps: bool,
     input: &mut S,
@@ -277,27 +298,36 @@ pub fn explore_scenario<S: Source, W: Sink, J: Sink, P: Watch, X: Sink>(
 ) -> u8
     ensures statuses { result ≤ 5 }
     ensures other { result ≡ 3 → ⊥ }
-    ensures no_stall { result ≡ 0 → (s : ScenarioData)
+    ensures never { result ≡ 0 → (s : ScenarioData)
         × ReadsScenario (S.remaining input.old) (S.remaining input.new) s
-        × Finds NoStall s most_states keeps (Appends (W.contents output.old) (W.contents output.new))
+        × Finds Never ask s most_states keeps (Appends (W.contents output.old) (W.contents output.new))
         (Appends (J.contents journal.old) (J.contents journal.new)) (journal.new ≡ journal.old)
         × (errors.new ≡ errors.old) }
-    ensures stall { result ≡ 4 → (s : ScenarioData)
+    ensures found { result ≡ 4 → (s : ScenarioData)
         × ReadsScenario (S.remaining input.old) (S.remaining input.new) s
-        × Finds Stall s most_states keeps (Appends (W.contents output.old) (W.contents output.new))
+        × Finds Found ask s most_states keeps (Appends (W.contents output.old) (W.contents output.new))
         (Appends (J.contents journal.old) (J.contents journal.new)) (journal.new ≡ journal.old)
         × (errors.new ≡ errors.old) }
     ensures gave_up { result ≡ 5 → (s : ScenarioData)
         × ReadsScenario (S.remaining input.old) (S.remaining input.new) s
-        × Finds GaveUp s most_states keeps (Appends (W.contents output.old) (W.contents output.new))
+        × Finds GaveUp ask s most_states keeps (Appends (W.contents output.old) (W.contents output.new))
         (Appends (J.contents journal.old) (J.contents journal.new)) (journal.new ≡ journal.old)
         × (errors.new ≡ errors.old) }
     ensures malformed { result ≡ 2 → ReadsMalformed (S.remaining input.old) (S.remaining input.new)
         × (output.new ≡ output.old) × (journal.new ≡ journal.old) }
 {
-    match explore_from(alloc, most_states, keeps, input, output, journal, progress) {
-        Ok(Verdict::NoStall) => 0,
-        Ok(Verdict::Stall) => 4,
+    match explore_from(
+        alloc,
+        ask,
+        most_states,
+        keeps,
+        input,
+        output,
+        journal,
+        progress,
+    ) {
+        Ok(Verdict::Never) => 0,
+        Ok(Verdict::Found) => 4,
         Ok(Verdict::GaveUp) => 5,
         Err(Unexplored::Malformed(fault)) => tell_malformed(alloc, fault, errors),
         Err(Unexplored::Failed(fault)) => tell_fault(fault, errors),
@@ -315,6 +345,7 @@ pub(super) fn explore_given<X: Sink>(rt: &HostRuntime, given: Exploring<'_>, err
             let mut input = Counted::new(input);
             explore_scenario(
                 rt.alloc(),
+                given.ask,
                 given.most_states,
                 keeps,
                 &mut input,

@@ -1,0 +1,4 @@
+use Rattle.chanhub_tool.proofs.commands.explore.write_found.Goals as goal
+
+pub returns : goal.returns
+returns g c = rw (c.subject.ensures, c.format.ensures.text) at c.write_pieces.ensures.whole

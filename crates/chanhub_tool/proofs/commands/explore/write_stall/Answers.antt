@@ -1,4 +1,0 @@
-use Rattle.chanhub_tool.proofs.commands.explore.write_stall.Goals as goal
-
-pub returns : goal.returns
-returns g c = rw c.format.ensures.text at c.write_pieces.ensures.whole

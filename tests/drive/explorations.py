@@ -1,12 +1,14 @@
 #!/usr/bin/env python3
 """explorations.py PROGRAM TOOL [RUNS [SEED]]: has the built chanhub_tool (TOOL) go through all schedules of random scenarios, and of the
-examples, and compares what it says with the search of explore.py, which shares no code with the proofs.
+examples, for each thing that can be asked, and compares what it says with the search of explore.py, which shares no code with the proofs.
 
-A scenario has two to four processes of up to four steps, and up to three ports. Where a run stalls, the journal that the tool writes is as
-short as the search's shortest; each of its lines is the next one of its process, and the last alone is told a stall, by model.py. Where
-none does, so many runs by threads (THREADS), by the built chanhub (PROGRAM), do not stall either. RUNS scenarios are tried (60), from SEED
-on (1). And a search that takes seconds shows how far it has come, on a terminal alone. The last line counts: 'N passed, M failed'.
+A scenario has two to four processes of up to four steps, and up to three ports. Where a run does what is asked for, the journal that the
+tool writes is as short as the search's shortest; each of its lines is the next one of its process, and the last alone does it, by model.py.
+What none does, so many runs by threads (THREADS), by the built chanhub (PROGRAM), do not do either. RUNS scenarios are tried (60), from
+SEED on (1). Among so many each thing is found for some, and for some not. And a search that takes seconds shows how far it has
+come, on a terminal alone. The last line counts: 'N passed, M failed'.
 """
+import collections
 import os
 import pathlib
 import pty
@@ -18,12 +20,12 @@ import tempfile
 
 sys.dont_write_bytecode = True
 from programs import MINUTE, ROOT, SCENARIOS, Count, all_of, examples
-from explore import Scenario, answer, stalls
+from explore import SUBJECTS, Scenario, answer, leaves, tells
 import model
 
 RUNS = 60
 THREADS = 3
-STALLS = 4  # the status of a scenario that stalls
+FOUND = 4  # the status where some run does what is asked for, and of a run that stalls
 EXAMPLES = ROOT / 'examples'
 THAT_STALL = ('philosophers', 'starving_select', 'stall_against_go/pool')  # under some schedules
 
@@ -76,53 +78,83 @@ class Draw:
         return '\n'.join(lines + [f'[[process]]\nsteps = {steps}' for steps in processes]) + '\n'
 
 
-def told_by(tool, path, journal):
+def told_by(tool, path, ask, journal):
     """What the tool says, its status, and the lines of the journal that it wrote."""
     if os.path.exists(journal):
         os.remove(journal)
-    done = subprocess.run([tool, 'explore', path, '--journal', journal], capture_output=True, text=True, timeout=MINUTE)
+    done = subprocess.run([tool, 'explore', path, '--ask', ask, '--journal', journal], capture_output=True, text=True, timeout=MINUTE)
     lines = pathlib.Path(journal).read_text().splitlines() if os.path.exists(journal) else None
     return done.stdout.rstrip('\n'), done.returncode, lines
 
 
-def is_run(scenario, lines):
-    """Whether these lines are a run of the scenario in which the last line stalls, and no other."""
-    if lines[:2] != [f'chanhub journal {scenario.edition}', f'procs {len(scenario.scripts)}']:
-        return False
-    makes = len(scenario.ports)
-    if lines[2:2 + makes] != [f'0 make {cap}' for cap in scenario.ports]:
+def does(scenario, ask, state, events):
+    """Whether a run does what is asked for by a step that told these events, and led to this state."""
+    return leaves(scenario, state) if ask == 'left' else tells(ask, events)
+
+
+def steps_behind_makes(scenario, lines):
+    """The steps of a journal of the scenario's head behind the makes of its ports; none where it does not begin so."""
+    head = [f'chanhub journal {scenario.edition}', f'procs {len(scenario.scripts)}', *(f'0 make {cap}' for cap in scenario.ports)]
+    if lines[:len(head)] != head:
+        return None
+    fields = [line.split() for line in lines[len(head):]]
+    return [(int(pid), model.step(step)) for pid, *step in fields]
+
+
+def is_run(scenario, ask, lines):
+    """Whether these lines are a run of the scenario in which the last line does what is asked for, and no other."""
+    steps = steps_behind_makes(scenario, lines)
+    if not steps:
         return False
     state = scenario.beginning()
-    for place, line in enumerate(lines[2 + makes:], 3 + makes):
-        fields = line.split()
-        pid, step = int(fields[0]), model.step(fields[1:])
+    for place, (pid, step) in enumerate(steps, 1):
         if (pid, step) not in list(scenario.moves(state)):
             return False
         state, events = scenario.after(state, pid, step)
-        if stalls(events) != (place == len(lines)):
+        if does(scenario, ask, state, events) != (place == len(steps)):
             return False
     return True
 
 
-def what_fails(program, tool, path, folder, runs):
-    """What is wrong with the tool's answer for this scenario, or nothing."""
-    scenario = Scenario(pathlib.Path(path).read_text())
-    wanted = answer(scenario)
-    told, status, lines = told_by(tool, path, os.path.join(folder, 'journal'))
+def what_differs(tool, path, scenario, ask, wanted, journal):
+    """What is wrong with the tool's answer, or nothing."""
+    told, status, lines = told_by(tool, path, ask, journal)
     if told != wanted:
         return f'says {told!r}, and not {wanted!r}'
-    if wanted.startswith('stall'):
-        if status != STALLS or lines is None:
-            return f'status {status}, and {"no" if lines is None else "a"} journal'
-        steps = len(lines) - 2 - len(scenario.ports)
-        return None if wanted == f'stall after {steps} steps' and is_run(scenario, lines) else f'the journal is {lines}'
-    if status != 0 or lines is not None:
+    is_found = not wanted.startswith('no ')
+    if status != (FOUND if is_found else 0) or (lines is None) == is_found:
         return f'status {status}, and {"no" if lines is None else "a"} journal'
+    if not is_found:
+        return None
+    steps = len(lines) - 2 - len(scenario.ports)
+    return None if wanted == f'{SUBJECTS[ask]} after {steps} steps' and is_run(scenario, ask, lines) else f'the journal is {lines}'
+
+
+def done_by_threads(program, path, scenario):
+    """All that can be asked for and a run by threads does."""
+    done = subprocess.run([program, 'run', path, '--journal'], capture_output=True, text=True, timeout=MINUTE)
+    found = {'stall'} if done.returncode == FOUND else set()
+    state = scenario.beginning()
+    for pid, step in steps_behind_makes(scenario, done.stdout.splitlines()):
+        state, events = scenario.after(state, pid, step)
+        found |= {ask for ask in SUBJECTS if does(scenario, ask, state, events)}
+    return found
+
+
+def what_fails(program, tool, path, folder, runs):
+    """What is wrong with the tool's answers for this scenario, or nothing; and what is found."""
+    scenario = Scenario(pathlib.Path(path).read_text())
+    wanted = {ask: answer(scenario, ask) for ask in SUBJECTS}
+    found = {ask for ask, line in wanted.items() if not line.startswith('no ')}
+    for ask, line in wanted.items():
+        why = what_differs(tool, path, scenario, ask, line, os.path.join(folder, 'journal'))
+        if why is not None:
+            return f'{ask}: {why}', found
     for _ in range(runs):
-        done = subprocess.run([program, 'run', path], capture_output=True, timeout=MINUTE)
-        if done.returncode == STALLS:
-            return 'a run by threads stalls'
-    return None
+        others = done_by_threads(program, path, scenario) - found
+        if others:
+            return f'a run by threads does {sorted(others)}', found
+    return None, found
 
 
 def independent(procs):
@@ -155,14 +187,18 @@ def main(program, tool, runs=RUNS, seed=1, threads=THREADS):
     count = Count()
     with tempfile.TemporaryDirectory() as folder:
         for path in [*examples(SCENARIOS), *(EXAMPLES / it for it in THAT_STALL)]:
-            why = what_fails(program, tool, path, folder, 0)
+            why, _ = what_fails(program, tool, path, folder, 0)
             count.test(f'all schedules of {path.name}', why is None, why or '')
         path = os.path.join(folder, 'scenario')
+        times = collections.Counter()
         for number in range(seed, seed + runs):
             with open(path, 'w') as file:
                 file.write(Draw(number).text())
-            why = what_fails(program, tool, path, folder, threads)
+            why, found = what_fails(program, tool, path, folder, threads)
+            times.update(found)
             count.test(f'all schedules of the random scenario {number}', why is None, why or '')
+        if runs >= RUNS:
+            count.test('each thing is found, and not found', all(0 < times[ask] < runs for ask in SUBJECTS), str(times))
         count.test('a long search on a terminal', tells_progress(tool, path))
     return count.end()
 

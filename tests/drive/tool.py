@@ -137,12 +137,12 @@ def chains(program, work):
     yield "refused allocations", survives_refusals(program, ["chain", *full, "-"], ROWS["chapters"]["third"].encode(), Refuser(work))
 
 
-def stalls(program, path, entries):
-    """Whether this file is a journal of so many entries that ends in a stall, by its story too."""
+def tells(program, path, entries, wanted):
+    """Whether this file is a journal of so many entries, whose story has this text."""
     text = path.read_text()
     status, story, errors = program.run(["story", path.name], b"", path.parent)
     told = Story(text)
-    return len(told.entries) == entries and (status, story, errors) == (0, told.text(1, entries), b"") and b"stall: everyone who is left waits" in story
+    return len(told.entries) == entries and (status, story, errors) == (0, told.text(1, entries), b"") and wanted.encode() in story
 
 
 def explorations(program, work):
@@ -161,10 +161,11 @@ def explorations(program, work):
     yield "a scenario that is too long", program.run(["explore"], too_long, path) == refused("scenario: too long")
     found = path / "found"
     for row in ROWS["found"]:
-        line = f"stall after {row['steps']} steps\n".encode()
-        asked = ["explore", row["scenario"], "--journal"]
+        line = f"{row.get('line', 'stall')} after {row['steps']} steps\n".encode()
+        asked = ["explore", row["scenario"], *(["--ask", row["ask"]] if "ask" in row else []), "--journal"]
         done = program.run([*asked, "found"], b"", path)
-        yield f"{row['scenario']}: its journal", done == (4, line, b"") and stalls(program, found, row["ports"] + row["steps"])
+        wanted = row.get("story", "stall: everyone who is left waits")
+        yield f"{row['scenario']}: its journal", done == (4, line, b"") and tells(program, found, row["ports"] + row["steps"], wanted)
         yield f"{row['scenario']}: its journal behind the line", program.run([*asked, "-"], b"", path) == (4, line + found.read_bytes(), b"")
         for out in ("missing/out", "/dev/full", "."):
             yield f"{row['scenario']}: no journal to {out}", program.run([*asked, out], b"", path) == (1, line, b"chanhub: write failed\n")
@@ -172,8 +173,8 @@ def explorations(program, work):
     for name in ("idle", "alone"):
         yield f"{name} for a full device", program.run_to_full(["explore", str(path / name)]) == (1, b"chanhub: write failed\n")
     refuser = Refuser(work)
-    for name in ("polls", "alone", "bad_script"):
-        yield f"{name}: refused allocations", survives_refusals(program, ["explore", str(path / name), "--journal", "-"], b"", refuser)
+    for name, *asked in (["polls"], ["alone"], ["bad_script"], ["polls", "--ask", "left"], ["stalls_and_leaves", "--ask", "left"]):
+        yield f"{name} {asked}: refused allocations", survives_refusals(program, ["explore", str(path / name), *asked, "--journal", "-"], b"", refuser)
 
 
 def help_texts(program, work):
@@ -197,7 +198,7 @@ def little_stack(program, work):
     said = program.run(["--help"])[1]
     found = re.search(rb"needs (\d+) KB of stack", said)
     scenario = str(ROOT / "examples" / "philosophers")
-    for words in (["story"], ["picture"], ["mermaid"], ["trace"], ["page"], ["serve"], ["chain", "-"], ["explore", scenario], ["story", "-x"]):
+    for words in (["story"], ["picture"], ["mermaid"], ["trace"], ["page"], ["serve"], ["chain", "-"], ["explore", scenario], ["explore", scenario, "--ask", "left"], ["story", "-x"]):
         limited = ["sh", "-c", 'ulimit -s "$0" && exec "$@"', found[1] if found else "0", program.path, *words]
         done = subprocess.run(limited, input=JOURNAL, capture_output=True)
         yield " ".join(words), (done.returncode, done.stdout, done.stderr) == program.run(words, JOURNAL)

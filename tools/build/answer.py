@@ -108,7 +108,7 @@ def files_of(words):
     command = words[0] if words else ''
     files, last = [], ''
     for word in words[1:]:
-        is_value = last in ('-o', '--output', '--color', '--states') or last == '--journal' and command == 'explore'
+        is_value = last in ('-o', '--output', '--color', '--ask', '--states') or last == '--journal' and command == 'explore'
         if not (is_value or word.startswith('-') or word.isdigit() and command not in ('run', 'verify', 'chain')):
             files.append(word)
         last = word

@@ -134,6 +134,19 @@ uint64_t pass_turn(chanhub *h, const struct told *t) {
     return is_awaited(h, pid) ? h->next : 0;
 }
 
+/* Passes the turn behind a step that was made, if nothing else follows from it: the next step is that of a process that does not wait,
+ * and the library has none to make. Returns whether it did. */
+bool pass_quietly(chanhub *h) {
+    if (h->state != FOLLOWS || h->gone) return false;
+    uint64_t next = hub_c_next(&h->hub);
+    if (!next || next & only(h->clock)) return false;
+    unsigned pid = (unsigned)__builtin_ctzll(next);
+    if (is_awaited(h, pid)) return false;
+    h->next = next;
+    h->places[pid].turns++;
+    return true;
+}
+
 /* Whether the step whose turn had not come, as this tells, is to be made again. Then waits for that, unless the hub has ended
  * meanwhile. Where the hub follows no longer, all processes may have been in calls until now, so that nobody could make a close
  * for ends that are gone: it comes before the step. */

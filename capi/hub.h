@@ -226,6 +226,7 @@ uint8_t await_closes(chanhub *h, unsigned pid, int step);
 void close_for_ends(chanhub *h, unsigned pid, unsigned port, struct told *t);
 void close_gone(chanhub *h, unsigned pid);
 uint64_t pass_turn(chanhub *h, const struct told *t);
+bool pass_quietly(chanhub *h);
 bool is_for_another_try(chanhub *h, unsigned pid, struct told *t);
 
 /* journals.c */
@@ -355,7 +356,8 @@ static inline uint64_t note_step(chanhub *h, const struct told *t) {
 /* Ends the call of a process whose step came to this, which mostly needs no more than the lock. Holds the lock since the step,
  * and leaves it. */
 static inline chanhub_told finish(chanhub *h, uint8_t pid, const struct told *t, uint64_t nanoseconds) {
-    if (t->it.what == CHANHUB_WAITING || t->ended || t->chapter || h->state) return finish_by_waking(h, pid, t, nanoseconds);
+    bool is_quiet = t->it.what != CHANHUB_WAITING && !t->ended && !t->chapter && (!h->state || (!t->it.fault && pass_quietly(h)));
+    if (!is_quiet) return finish_by_waking(h, pid, t, nanoseconds);
     leave_lock(h);
     return t->it;
 }

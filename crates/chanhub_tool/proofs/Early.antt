@@ -1,9 +1,9 @@
 -- Where not all was written.
 use Rattle.std.proofs.Common.{◌≡◌, ℕ, List, Result, Ok, Err, IfErr, IsErrAnd, subst, sym, inr}
 use Rattle.hub_base.specs.Journal.{JournalView}
-use Rattle.hub_page.specs.declared.fault.PageFault.{PageFault}
-use Rattle.hub_page.specs.declared.fault.PageFault.TheVariants as page
-use Rattle.hub_page.specs.Faults.{Fails, replay_fault}
+use Rattle.hub_replay.specs.declared.view_fault.ViewFault.{ViewFault}
+use Rattle.hub_replay.specs.declared.view_fault.ViewFault.TheVariants as view
+use Rattle.hub_replay.specs.ViewFaults.{Fails, replay_fault}
 use Rattle.hub_replay.specs.Devices.{Failed}
 use Rattle.hub_replay.specs.declared.fault.ReplayFault.{ReplayFault}
 use Rattle.hub_replay.specs.declared.fault.ReplayFault.TheVariants as replay
@@ -29,14 +29,14 @@ module _ (f : Form) (w : Window) (given : JournalView) (text : List ℕ) (Unwrit
       subst (λ (f' : Form). HasNoMemory f' Unwritten (Unfailed × Shows f w given Begins)) (sym same) so
 
   -- a page, which is written as it goes
-  page-fault : (before after : ℕ) (fault : PageFault) → f ≡ form.Page → Fails before after fault → Begins text →
+  page-fault : (before after : ℕ) (fault : ViewFault) → f ≡ form.Page → Fails before after fault → Begins text →
       EndsEarly (HasNoMemory f Unwritten ((after ≡ before) × Shows f w given Begins)) (Failed before after) (Shows f w given Begins)
       (replay_fault fault)
-  page-fault before after page.Write same fails begins = (fails, shows begins)
-  page-fault before after page.NoMemory same fails begins =
+  page-fault before after view.Write same fails begins = (fails, shows begins)
+  page-fault before after view.NoMemory same fails begins =
       subst (λ (f' : Form). HasNoMemory f' Unwritten ((after ≡ before) × Shows f w given Begins)) (sym same) (inr (fails, shows begins))
 
-  pub page-early : {T : Type 0} (before after : ℕ) (fault : PageFault) (r : Result T ReplayFault) → f ≡ form.Page →
+  pub page-early : {T : Type 0} (before after : ℕ) (fault : ViewFault) (r : Result T ReplayFault) → f ≡ form.Page →
       IsErrAnd r (λ told. told ≡ replay_fault fault) → Fails before after fault → Begins text →
       IfErr r (EndsEarly (HasNoMemory f Unwritten ((after ≡ before) × Shows f w given Begins)) (Failed before after) (Shows f w given Begins))
   page-early before after fault (Ok x) same told fails begins = absurd told

@@ -16,4 +16,3 @@ pub mod KnownPage
 pub mod Viewer
 pub mod Page
 pub mod PageRows
-pub mod Faults

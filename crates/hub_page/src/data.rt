@@ -7,13 +7,12 @@ ghost use Rattle.hub_base.specs.Reading.{head_lines};
 ghost use Rattle.hub_replay.specs.Devices.{AppendsBeginning};
 ghost use Rattle.hub_story.specs.Clock.{clock_of};
 ghost use Rattle.hub_page.specs.Data.{block_begin, block_count, clock_words, whole_blocks, window_line};
-ghost use Rattle.hub_page.specs.Faults.{Fails};
+ghost use Rattle.hub_replay.specs.ViewFaults.{Fails};
 ghost use Rattle.hub_page.specs.Known.{IsKnown, entries_of, told_of};
 ghost use Rattle.hub_page.specs.KnownPage.{all_blocks, block_of, data_of};
 ghost use Rattle.hub_page.specs.Past.{IsPast, IsRest};
 
 use crate::block::Block;
-use crate::fault::PageFault;
 use crate::known::Known;
 use crate::limits::BLOCK;
 use crate::number::put_number;
@@ -21,7 +20,7 @@ use crate::past::Past;
 use crate::sketch::{Sketch, put_sketch};
 use crate::step_lines::put_lines;
 use hub_base::{NoMemory, Pid};
-use hub_replay::{Sink, write_whole};
+use hub_replay::{Sink, ViewFault, write_whole};
 use hub_story::{Told, Window};
 use hub_story_text::clock_in;
 use hub_text::write_head;
@@ -94,7 +93,7 @@ fn write_blocks<W: Sink>(
     alloc: Global,
     past: &mut Past,
     known: &Known<'_>,
-) -> Result<(), PageFault>
+) -> Result<(), ViewFault>
     requires known { IsKnown known.now }
     requires few { length (entries_of known.now) < 2 ^ 32 - 1 }
     requires past { IsPast known.now 0 past.old }
@@ -152,7 +151,7 @@ pub(crate) fn write_data<W: Sink>(
     past: &mut Past,
     known: &Known<'_>,
     window: Window,
-) -> Result<(), PageFault>
+) -> Result<(), ViewFault>
     requires known { IsKnown known.now }
     requires window { known.now.window ≡ whole_blocks (length (entries_of known.now)) window }
     requires head { IsHead known.now.journal.now.head }

@@ -7,7 +7,6 @@ mod data;
 mod ends;
 mod entries;
 mod excerpt;
-mod fault;
 mod known;
 mod lanes;
 mod levels;
@@ -23,6 +22,5 @@ mod step_lines;
 mod viewer;
 mod writing;
 
-pub use fault::PageFault;
 pub use page::write_page;
 pub use writing::{room, write_text};

@@ -10,14 +10,13 @@ ghost use Rattle.hub_replay.specs.Devices.{AppendsBeginning};
 ghost use Rattle.hub_story.specs.Stories.{IsStoryOf};
 ghost use Rattle.hub_story_text.specs.StoryText.{story_text};
 ghost use Rattle.hub_page.specs.Data.{whole_blocks};
-ghost use Rattle.hub_page.specs.Faults.{Fails};
+ghost use Rattle.hub_replay.specs.ViewFaults.{Fails};
 ghost use Rattle.hub_page.specs.Known.{IsKnown, entries_of, told_of};
 ghost use Rattle.hub_page.specs.KnownPage.{page_of};
 ghost use Rattle.hub_page.specs.Page.{no_steps, page_text};
 ghost use Rattle.hub_page.specs.Past.{IsPast};
 
 use crate::data::{whole_blocks, write_data};
-use crate::fault::PageFault;
 use crate::known::Known;
 use crate::parked_calls::ParkedCalls;
 use crate::past::Past;
@@ -25,7 +24,7 @@ use crate::viewer::{write_after, write_before, write_between};
 use crate::writing::{room, write_text};
 use hub_base::NoMemory;
 use hub_core::ShortJournal;
-use hub_replay::Sink;
+use hub_replay::{Sink, ViewFault};
 use hub_story::{Story, Window};
 use hub_story_text::{MOST_BLOCK, PackedText, all_partners, push_story};
 use std::alloc::Global;
@@ -56,7 +55,7 @@ fn write_known<W: Sink>(
     window: Window,
     end: &PackedText,
     bytes: &mut Vec<u8>,
-) -> Result<(), PageFault>
+) -> Result<(), ViewFault>
     requires known { IsKnown known.now }
     requires window { known.now.window ≡ whole_blocks (length (entries_of known.now)) window }
     requires head { IsHead known.now.journal.now.head }
@@ -87,7 +86,7 @@ pub fn write_page<W: Sink>(
     story: &Story,
     window: Window,
     output: &mut W,
-) -> Result<(), PageFault>
+) -> Result<(), ViewFault>
     requires story { IsStoryOf journal.now story.now }
     requires head { IsHead journal.now.head }
     requires few { length journal.now.entries < 2 ^ 32 - 1 }

@@ -5,6 +5,7 @@ pub mod Replay
 pub mod Replayed
 pub mod Verify
 pub mod VerifyRows
+pub mod ViewFaults
 pub mod Answers
 pub mod Lines
 pub mod Running

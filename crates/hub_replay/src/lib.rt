@@ -21,6 +21,7 @@ mod server;
 mod steps;
 mod talk;
 mod verifier;
+mod view_fault;
 
 pub use args::arguments;
 pub use device::{Counted, Sink, Source};
@@ -32,3 +33,4 @@ pub use replayer::replay;
 pub use server::converse;
 pub use talk::Talk;
 pub use verifier::{Compared, verify};
+pub use view_fault::ViewFault;

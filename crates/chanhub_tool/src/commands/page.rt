@@ -5,14 +5,14 @@ ghost use Rattle.std.specs.Io.KnownBytes.{Appends};
 ghost use Rattle.hub_base.specs.Head.{IsHead};
 ghost use Rattle.hub_replay.specs.Devices.{AppendsBeginning};
 ghost use Rattle.hub_story.specs.Told.{told};
-ghost use Rattle.hub_page.specs.Faults.{Fails};
+ghost use Rattle.hub_replay.specs.ViewFaults.{Fails};
 ghost use Rattle.hub_page.specs.Page.{page_text};
 
 use crate::given::journal_command;
 use clap::Command;
 use hub_core::ShortJournal;
-use hub_page::{PageFault, write_page};
-use hub_replay::Sink;
+use hub_page::write_page;
+use hub_replay::{Sink, ViewFault};
 use hub_story::{Window, story_of};
 use std::alloc::{AllocError, Global};
 
@@ -31,7 +31,7 @@ pub(crate) fn write_page_of<W: Sink>(
     journal: &ShortJournal,
     window: Window,
     output: &mut W,
-) -> Result<(), PageFault>
+) -> Result<(), ViewFault>
     requires head { IsHead journal.now.head }
     requires few { length journal.now.entries < 2 ^ 32 - 1 }
     ensures whole { OnOk result (Appends (W.contents output.old) (W.contents output.new)

@@ -14,7 +14,7 @@ Takes a journal, which is a file that begins with `chanhub journal `, or runs a 
 and the picture of all its steps, of step FROM, or of steps FROM to TO. Prints the paths of the story, the picture and the page, and
 opens the page. A run that stalls is explained too. If all of more than 300 steps are to be drawn, there are an overview and pictures
 of the steps round stalls and round both ends of the longest waits instead.
-With --every, the journal is a shortest run of the scenario that stalls, and what `chanhub_tool explore` says is printed first.
+With --every, the journal is a run of the scenario that stalls, and what `chanhub_tool explore` says is printed first.
 If no run stalls, that is all, with status 0; if there are too many states, likewise, with status 5.
 With --after, the journal is a chapter of a hub that never ends, and CHAPTER is the one before. Where its checkpoint ends is printed
 first: the program made the steps behind that one.

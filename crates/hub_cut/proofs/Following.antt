@@ -8,7 +8,7 @@ use Rattle.hub_base.specs.Journal.{JournalView}
 use Rattle.hub_base.specs.Runs.{state}
 use Rattle.hub_base.specs.Steps.{refusal}
 use Rattle.hub_base.specs.Text.{IsText}
-use Rattle.hub_text.proofs.OneReading.{one-text, apart}
+use Rattle.hub_base.proofs.OneReading.{one-text, apart}
 use Rattle.hub_laws.specs.Journals.{IsLegal}
 use Rattle.hub_laws.proofs.Journals.{begins-law}
 use Rattle.hub_chapters.specs.Chapters.{Chapters, last_chapter}

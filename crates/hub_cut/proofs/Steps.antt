@@ -15,8 +15,8 @@ use Rattle.hub_base.specs.Reading.{head_lines}
 use Rattle.hub_base.specs.Runs.{state}
 use Rattle.hub_base.specs.Steps.{refusal}
 use Rattle.hub_base.specs.Text.{IsText, steps_of, one_step}
-use Rattle.hub_text.proofs.Heads.{text-again}
-use Rattle.hub_text.proofs.OneReading.{found-fits}
+use Rattle.hub_base.proofs.Heads.{text-again}
+use Rattle.hub_base.proofs.OneReading.{found-fits}
 use Rattle.hub_laws.specs.Journals.{IsLegal}
 use Rattle.hub_core.specs.HubView.{HubView, Refuses, places_after}
 use Rattle.hub_cut.specs.Chains.{IsHubOf, MakesText}

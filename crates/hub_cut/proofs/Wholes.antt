@@ -9,7 +9,7 @@ use Rattle.hub_base.specs.declared.head.Head.{Head}
 use Rattle.hub_base.specs.Journal.{JournalView}
 use Rattle.hub_base.specs.Runs.{state}
 use Rattle.hub_base.specs.Text.{IsText}
-use Rattle.hub_text.proofs.OneReading.{one-text}
+use Rattle.hub_base.proofs.OneReading.{one-text}
 use Rattle.hub_chapters.specs.Chapters.{Chapters, last_chapter, AreLegal}
 use Rattle.hub_chapters.specs.Chapters.Chapters.{First, Cut}
 use Rattle.hub_chapters.specs.Checkpoint.{checkpoint}

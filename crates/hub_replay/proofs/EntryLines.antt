@@ -15,10 +15,10 @@ use Rattle.hub_base.specs.Reading.{Reading, Reads, Faulty, Row, rows, reading, r
 use Rattle.hub_base.specs.Reading.{with_entry, behind, is_exit}
 use Rattle.hub_base.specs.Reading.{header, head_lines, procs_line}
 use Rattle.hub_base.specs.Text.{header_row, procs_row}
-use Rattle.hub_text.proofs.Bodies.{rows-line}
-use Rattle.hub_text.proofs.Heads.{heads-again}
+use Rattle.hub_base.proofs.Bodies.{rows-line}
+use Rattle.hub_base.proofs.Heads.{heads-again}
 use Rattle.hub_text.proofs.NextLine.{row-fine}
-use Rattle.hub_text.proofs.Numerals.{lacks, lacks-append, decimal-lacks}
+use Rattle.hub_base.proofs.Numerals.{lacks, lacks-append, decimal-lacks}
 use Rattle.hub_replay.specs.Lines.{IsEntryLine, Says, first_line, says_one}
 use Rattle.hub_replay.proofs.LineEnds.{rows-of-line}
 use Rattle.std.specs.Fmt.{decimal}

@@ -12,7 +12,7 @@ use Rattle.hub_base.specs.Reading.{Faulty, Row, rows, row_fault, end_of, faulty_
 use Rattle.hub_base.specs.Reading.{procs_say}
 use Rattle.hub_base.specs.Reading.{reading, read_text, header, head_lines, procs_line}
 use Rattle.hub_base.specs.Text.{header_row}
-use Rattle.hub_text.proofs.Heads.{edition-take, procs-take, header-again}
+use Rattle.hub_base.proofs.Heads.{edition-take, procs-take, header-again}
 use Rattle.hub_replay.specs.Lines.{IsLine, IsSecond, first_line}
 use Rattle.hub_replay.proofs.LineEnds.{rows-of-line}
 

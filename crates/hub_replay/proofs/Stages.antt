@@ -17,10 +17,10 @@ use Rattle.hub_base.specs.Reading.{Reading, Reads, Faulty, Row, rows, reading, r
 use Rattle.hub_base.specs.Reading.{entries_from, with_entry}
 use Rattle.hub_base.specs.Reading.{behind, over, counted, head_lines}
 use Rattle.hub_base.specs.Text.{IsText, header_row, procs_row, row_of, steps_of, fault_of_entry}
-use Rattle.hub_text.proofs.Bodies.{rows-entries}
-use Rattle.hub_text.proofs.Heads.{heads-again, header-again, text-take}
+use Rattle.hub_base.proofs.Bodies.{rows-entries}
+use Rattle.hub_base.proofs.Heads.{heads-again, header-again, text-take}
 use Rattle.hub_text.proofs.NextLine.{row-fine}
-use Rattle.hub_text.proofs.Running.{entries-again}
+use Rattle.hub_base.proofs.Running.{entries-again}
 use Rattle.hub_replay.specs.declared.running.Running.{Running}
 use Rattle.hub_replay.specs.Lines.{IsLine, first_line}
 use Rattle.hub_replay.specs.Stands.{InHead, IsAt}

@@ -18,7 +18,8 @@ use Rattle.hub_cut.specs.declared.fault.ChainFault.{ChainFault}
 use Rattle.hub_cut.specs.declared.fault.ChainFault.TheVariants as chain
 use Rattle.hub_cut.specs.Chains.{IsChapter, Stands}
 use Rattle.hub_cut.specs.Faults.{Says, RefusedAt, DifferAt, GoesOn, IsNotLegal, DoesNotFollow}
-use Rattle.hub_cut.proofs.Places.{around, still_there}
+use Rattle.hub_base.proofs.Lists.{around}
+use Rattle.hub_cut.proofs.Places.{still_there}
 
 -- What is refused
 

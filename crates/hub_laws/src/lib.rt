@@ -20,7 +20,7 @@ pub use bounded_counts::counts_are_bounded;
 pub use closed_ports::closed_ports_drain;
 pub use first_answers::{entries_are_answered, events_fit};
 pub use kept_values::values_are_kept;
-pub use last_replies::{replies_come, replies_stay};
+pub use last_replies::{own_entries_are_asked, replies_come, replies_stay};
 pub use legal_journals::{journals_are_legal, journals_are_short, journals_begin, journals_grow};
 pub use one_ending::calls_end_once;
 pub use one_port::one_port_moves;

@@ -1,18 +1,11 @@
 -- What the table of digits has, and how bytes and their digits grow.
-use Rattle.std.proofs.Common.{◌≡◌, ℕ, zero, suc, ◌+◌, ◌-◌, ◌*◌, ◌/◌, ◌%◌, ◌<◌, Bool, true, false, ◌&&◌, List, [], ◌∷◌, slice_index, Some, Result, Ok}
-use Rattle.std.proofs.Common.{Err, inl, inr}
-use Rattle.std.proofs.Common.{refl, sym, ap, ◌∙◌, arith}
+use Rattle.std.proofs.Common.{◌≡◌, ℕ, zero, suc, ◌+◌, ◌*◌, ◌/◌, ◌%◌, ◌<◌, ◌==◌, Bool, true, ◌&&◌, ◌||◌, List, [], ◌∷◌, ◌++◌}
+use Rattle.std.proofs.Common.{get_or, slice_index, inl, inr, refl, ap, arith}
 use Rattle.std.proofs.lemmas.Bool.{and_parts, cases_lt}
 use Rattle.std.proofs.lemmas.Grind.{common_steps}
-use Rattle.std.specs.Prelude.{nat_le, nat_lt, ◌⊎◌}
-use Rattle.std.specs.List.{list_all}
-use Rattle.std.proofs.Common.{◌++◌, get_or, ◌||◌, ◌==◌}
+use Rattle.std.specs.Prelude.{nat_lt, ◌⊎◌}
 use Rattle.hub_text.specs.declared.values.TheConstants.{DIGITS}
-use Rattle.hex.specs.declared.error.FromHexError.{FromHexError}
-use Rattle.hex.specs.Hex.{IsBytes, decode_of, decode_pairs, digit_or_error, encode_lower, encode_with, hex_digit_value, lower_digits, pair_value}
-use Rattle.hex.specs.Hex.{value_at, ◌>>=◌}
-use Rattle.hex.proofs.HexLemmas.{IsDigits-lower_digits, decode_of-even, decode_of-ok}
-use Rattle.hub_base.specs.Lines.{is_hex}
+use Rattle.hex.specs.Hex.{IsBytes, encode_lower, encode_with, lower_digits}
 
 -- what the table has for a byte: what it is worth as a digit, or 256
 abbrev is_worth : ℕ → ℕ → Bool

@@ -67,6 +67,7 @@ fn clear(waiting: &mut [Option<Event>], pid: Pid)
 
 impl Answers {
     /// None waits.
+    #[tactic(auto, using(crate::proofs::Locks::none_replies))]
     pub fn new() -> Answers
         ensures value { result ≡ no_answers }
         ensures replies { (h : Head) (es : List Entry) → AreReplies h es result.waiting }
@@ -81,6 +82,7 @@ impl Answers {
 
     /// Begins a step: the next event that is heard is its answer. Until then the answer before stays.
     #[inline(always)]
+    #[tactic(auto, using(crate::proofs::Hearing::heard_so))]
     pub fn begin(&mut self)
         ensures value { self.new ≡ begun self.old }
         // What is so once the events of a step were heard.

@@ -1,5 +1,5 @@
 -- A step of a hub that never ends, as a step of one hub that was never cut.
-use Rattle.std.proofs.Common.{◌≡◌, ◌∙◌, List, ◌∷◌, refl, subst, arith, None}
+use Rattle.std.proofs.Common.{◌≡◌, ◌∙◌, List, ◌∷◌, ap, refl, sym, subst, arith, None}
 use Rattle.hub_base.specs.Entry.{Entry}
 use Rattle.hub_base.specs.Runs.{moves, state}
 use Rattle.hub_base.specs.Steps.{refusal}
@@ -8,6 +8,7 @@ use Rattle.hub_base.specs.declared.head.Head.{Head}
 use Rattle.hub_chapters.specs.Chapters.{Chapters, history}
 use Rattle.hub_cut.specs.Recorder.{GoesOn, RecordsStep, RecorderView, Records, begins, head_of_all, with_next}
 use Rattle.hub_live.specs.Answers.{AnswersView, Heard}
+use Rattle.hub_live.specs.Locked.{AreReplies}
 use Rattle.hub_served.specs.Endless.{EndlessKeeps, EndlessView, Explains, ServesMade, ServesNext, endless_view}
 
 abbrev endless : RecorderView → AnswersView → EndlessView
@@ -34,7 +35,9 @@ module _ (old : RecorderView) (a : AnswersView) (e : Entry) (new : RecorderView)
         reply = k.reply;
         explains = record {
           records = goes.records;
-          replies = λ q. rw (s.terms, goes.history) (k.replies so.replies q);
+          replies =
+              subst (λ (h : Head). AreReplies h (history (with_next (begins old e.step) chapters e)) b.waiting) (sym (ap (λ t. t.head) s.terms))
+              (subst (λ (es : List Entry). AreReplies (head_of_all old) es b.waiting) (sym goes.history) (k.replies so.replies));
         };
       }
 

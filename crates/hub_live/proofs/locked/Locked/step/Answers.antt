@@ -17,7 +17,7 @@ heard : (c : In_ok-step_heard) → Heard c.self.inside.answers c.self.inside.hub
     c.step_heard.new.events
 heard c =
     let made = c.in_ok-step_heard.ensures.ok in
-    c.begin.ensures.heard _ _ c.args.entry.now c.step_heard.new.events made.steps.admitted (made.heard ∙ ap (hears_all c.begin.new.self) made.steps.events)
+    c.begin.ensures.heard _ _ c.args.entry.now c.step_heard.new.events made.steps.admitted (made.heard ∙ ap (hears_all _) made.steps.events)
 
 pub invariant_of-self-2 : goal.invariant_of-self-2
 invariant_of-self-2 c = lawful_then _ c.self.inside.answers c.args.entry.now _ _ _ c.self.invariant c.in_ok-step_heard.ensures.ok.steps (heard c)

@@ -5,6 +5,7 @@ use Rattle.hub_laws.proofs.Prelude.{OpenCall, opening, turn, has_gone, one_step,
 use Rattle.hub_laws.proofs.Prelude.{is_start, all_starts, is_exit, is_among, AreOf, has_lives, is_of, Step, Edition}
 use Rattle.hub_laws.proofs.Prelude.{Exit, Start, Make, Call, Close, Cancel, Reopen, filter, not, list_any, ◌&&◌, ◌==◌, ◌++◌, if◌then◌else◌, and_parts}
 use Rattle.hub_laws.proofs.Prelude.{eqb-true, or_cases, inl, inr, subst, length-append}
+use Rattle.std.proofs.Common.{◌*◌}
 use Rattle.std.specs.List.{list_all}
 use Rattle.hub_laws.specs.Journals.{IsLegal}
 use Rattle.hub_laws.proofs.Ready.{Admitted, admitted, by-refusal}

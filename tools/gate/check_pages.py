@@ -14,6 +14,8 @@
                came last: but for crates of tests, and for the answers of single functions, in folders of proofs/
     claims     what check_claims.py says of docs/CLAIMS.md and docs/SEMANTICS.md
     limits     what check_limits.py says of numbers
+    citations  sources and proofs cite lemmas of their own crate and of the crates of definitions and laws, but for those of STILL_CITED:
+               what else a proof needs of another crate is a clause of its contracts
     width      lines of definitions, of proofs and of README.md are not too wide to read
     words      pages have few words
     edits      README says how many edits the gate tries
@@ -32,7 +34,7 @@ sys.path[:0] = [os.path.join(HERE, it) for it in ('..', '../build')]
 import check_claims
 import check_limits
 from claims import files, read, sources
-from crates import ROOT
+from crates import ROOT, read_crates
 
 MOST_WORDS = 45000
 MOST_WORDS_OF_README = 900
@@ -53,6 +55,10 @@ ROW_OF_LIST = re.compile(r'^(?:\| )?`(src/[\w/]+?)(?:\.rt)?`[^|\n]* \|', re.M)
 NAMED = re.compile(r'`(src/[\w/]+?)(?:\.rt)?`|`([\w/]+)\.rt`')
 ROW_OF_CHANGING = re.compile(r'^(?:\| )?`(\w+)`(?: \*)? \| (.*?) \|', re.M)
 STEP = re.compile(r'\bReopen\b')
+CITED = re.compile(r'\bRattle\.((\w+)\.proofs\.\w+)')
+LAWS = {'hub_base', 'hub_laws', 'hub_chapters'}
+STILL_CITED = {f'hub_story.proofs.{it}' for it in ('Editions', 'Filling', 'Filters', 'Gone')} | {
+    f'hub_story_text.proofs.{it}' for it in ('Chains', 'Groups', 'StepLines', 'StepTexts')}
 EDITS_OF_GATE = re.compile(r'^gate: yes$', re.M)
 COUNTED_EDITS = re.compile(r'rejects (\w+)\s+deliberately wrong')
 NUMBERS = 'no one two three four five six seven eight nine ten eleven twelve'.split()
@@ -174,6 +180,14 @@ def changing():
     yield from (f'{name} names Reopen, and is in no row' for name in files_of_step() if name not in first)
 
 
+def citations():
+    crates = read_crates()
+    for crate in crates:
+        for path in [*sources(crate), *files(crate, 'specs', '**', '*.antt'), *files(crate, 'proofs', '**', '*.antt')]:
+            yield from (f'{path}: {lemmas}' for lemmas, other in CITED.findall(read(path))
+                        if other in crates.keys() - LAWS - {crate} and lemmas not in STILL_CITED)
+
+
 def wide_lines(path, most):
     return (f'{path}:{number}: {len(line)} columns' for number, line in enumerate(read(path).split('\n'), 1) if len(line) > most)
 
@@ -203,7 +217,7 @@ def edits():
 
 
 CHECKS = {'links': links, 'quotes': quotes, 'lists': lists, 'changing': changing, 'claims': check_claims.wrong, 'limits': check_limits.wrong,
-          'width': width, 'words': words, 'edits': edits}
+          'citations': citations, 'width': width, 'words': words, 'edits': edits}
 
 
 def main():

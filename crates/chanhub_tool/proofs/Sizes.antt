@@ -3,7 +3,7 @@ use Rattle.std.proofs.Common.{◌<◌, ◌-◌, ◌^◌, ℕ, List, length, arit
 use Rattle.hub_base.specs.declared.head.Head.{Head}
 use Rattle.hub_base.specs.Entry.{Entry}
 use Rattle.hub_base.specs.Text.{IsText}
-use Rattle.hub_cut.proofs.Steps.{few_entries}
+use Rattle.hub_base.proofs.OneReading.{few-entries as few}
 
 pub few-entries : (bytes : List ℕ) (h : Head) (es : List Entry) → IsText bytes h es → length es < 2 ^ 32 - 1
-few-entries bytes h es is = omega (arith, few_entries bytes h es is)
+few-entries bytes h es is = omega (arith, few bytes h es is)

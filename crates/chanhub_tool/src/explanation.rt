@@ -2,7 +2,7 @@
 
 ghost use Rattle.std.specs.Prelude.{◌≡◌, ◌<◌, ◌-◌, ◌^◌, length, IfOk, IfErr, OnOk};
 ghost use Rattle.std.specs.Io.KnownBytes.{Appends};
-ghost use Rattle.hub_text.specs.ReadJournal.{IsFaultOf};
+ghost use Rattle.hub_base.specs.ReadJournal.{IsFaultOf};
 ghost use Rattle.hub_base.specs.Head.{IsHead};
 ghost use Rattle.hub_base.specs.Text.{IsText};
 ghost use Rattle.hub_replay.specs.Devices.{AppendsBeginning, Failed};

@@ -13,6 +13,7 @@ pub mod EventText
 pub mod Lines
 pub mod Reading
 pub mod Text
+pub mod ReadJournal
 pub mod TextRows
 pub mod Journal
 pub mod Head

@@ -1,5 +1,5 @@
 -- The journal of a hub has room for its places and for the exit of each process, and what a step leaves of a hub.
-use Rattle.std.proofs.Common.{◌≡◌, ℕ, zero, suc, ◌+◌, ◌-◌, ◌≤◌, ◌<◌, ◌^◌, ◌*◌, Bool, true, false, cond, List, [], ◌∷◌}
+use Rattle.std.proofs.Common.{◌≡◌, ℕ, zero, suc, ◌+◌, ◌-◌, ◌≤◌, ◌<◌, ◌^◌, Bool, true, false, cond, List, [], ◌∷◌}
 use Rattle.std.proofs.Common.{◌++◌, length, refl, ap, ◌∙◌, sym, subst, ◌&&◌, None, arith, length-append}
 use Rattle.std.specs.Prelude.{Result, Ok, Err, IsErr, IsErrAnd}
 use Rattle.std.specs.List.{list_all}
@@ -18,8 +18,8 @@ use Rattle.hub_base.specs.Runs.{state, kept, admits}
 use Rattle.hub_base.specs.State.{State}
 use Rattle.hub_base.specs.Reading.{is_exit}
 use Rattle.hub_base.specs.Text.{steps_of, one_step}
-use Rattle.hub_laws.proofs.Limits.{limits-law, gone-law}
-use Rattle.hub_laws.specs.Limits.{all_starts}
+use Rattle.hub_base.proofs.StepCounts.{steps-snoc}
+use Rattle.hub_laws.proofs.Limits.{gone-law, legal-short}
 use Rattle.hub_laws.proofs.Account.{with_leaver}
 use Rattle.hub_laws.proofs.Entries.{turn-account}
 use Rattle.hub_laws.proofs.Longer.{state-entry}
@@ -33,32 +33,11 @@ use Rattle.hub_core.specs.HubKeeps.{HubKeeps, Takes, count_after, shown}
 use Rattle.hub_core.proofs.Following.{kept-admitted}
 use Rattle.hub_core.proofs.Stalls.{refusal_of-as}
 
--- starts are steps
-pub starts-few : (es : List Entry) → length (all_starts es) ≤ steps_of es
-starts-few [] = omega arith
-starts-few (e ∷ es) = by e.step (starts-few es)
-  where
-    by : (step : Step) → length (all_starts es) ≤ steps_of es →
-        length (all_starts (record { pid = e.pid; step = step } ∷ es)) ≤ steps_of (record { pid = e.pid; step = step } ∷ es)
-    by (Make cap) h = omega (arith, h)
-    by (Call cases default word) h = omega (arith, h)
-    by (Close p) h = omega (arith, h)
-    by Exit h = omega (arith, h)
-    by (Cancel q) h = omega (arith, h)
-    by (Start q) h = omega (arith, h)
-    by (Reopen p cap) h = omega (arith, h)
-
--- a journal is not longer than its steps, its starts and its processes
-pub journal_short : (head : Head) (journal : List Entry) → kept head journal ≡ journal → length journal ≤ 2 * steps_of journal + head.procs
-journal_short head journal legal =
-    let law = subst (λ (es : List Entry). length es ≤ steps_of es + head.procs + length (all_starts es)) legal (limits-law head journal).length in
-    omega (arith, law, starts-few journal)
-
 -- a machine that follows a legal journal has made few steps
 pub steps_few : (head : Head) (limit : ℕ) (journal : List Entry) (m : MachineLists) → Follows head journal m → kept head journal ≡ journal
     → steps_of journal ≤ limit → limit ≤ MOST_STEPS → head.procs ≤ MOST_PROCS → m.steps < 2 ^ 32 - 1
 steps_few head limit journal m h legal within limits few =
-    omega (arith, h.steps, ap (λ (es : List Entry). length es) legal, journal_short head journal legal)
+    omega (arith, h.steps, ap (λ (es : List Entry). length es) legal, legal-short head journal legal)
 
 one-count : (e : Entry) (count : ℕ) → count + one_step e ≡ count_after e.step count
 one-count e count = one_by (is_exit e.step) count where
@@ -66,12 +45,8 @@ one-count e count = one_by (is_exit e.step) count where
   one_by true count = omega arith
   one_by false count = refl
 
-steps_of-snoc : (es : List Entry) (e : Entry) → steps_of (es ++ e ∷ []) ≡ steps_of es + one_step e
-steps_of-snoc [] e = omega arith
-steps_of-snoc (x ∷ es) e = omega (arith, steps_of-snoc es e)
-
 pub count-snoc : (es : List Entry) (e : Entry) (count : ℕ) → count ≡ steps_of es → count_after e.step count ≡ steps_of (es ++ e ∷ [])
-count-snoc es e count is = sym (one-count e count) ∙ ap (λ k. k + one_step e) is ∙ sym (steps_of-snoc es e)
+count-snoc es e count is = sym (one-count e count) ∙ ap (λ k. k + one_step e) is ∙ sym (steps-snoc es e)
 
 -- the journal with one admitted entry more is legal
 pub legal_longer : (head : Head) (journal : List Entry) (e : Entry) → kept head journal ≡ journal → refusal (state head journal) e.pid ≡ None

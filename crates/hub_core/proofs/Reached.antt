@@ -1,5 +1,5 @@
 -- What is known of a machine that some run leads to.
-use Rattle.std.proofs.Common.{◌≡◌, ℕ, ◌+◌, ◌-◌, ◌==◌, ◌≤◌, ◌<◌, ◌^◌, ◌||◌, ◌&&◌, not, Bool, true, false, cond, nat_lt}
+use Rattle.std.proofs.Common.{◌≡◌, ℕ, ◌+◌, ◌-◌, ◌==◌, ◌≤◌, ◌<◌, ◌^◌, ◌||◌, ◌&&◌, not, Bool, true, false, nat_lt}
 use Rattle.std.proofs.Common.{List, [], ◌∷◌, length, length-append, ap, refl, ◌∙◌, sym, subst, Option, Some, None, arith}
 use Rattle.std.specs.List.{list_any, range_with_len}
 use Rattle.std.proofs.lemmas.List.Folds.{list_all_at}
@@ -22,8 +22,6 @@ use Rattle.hub_base.specs.State.{State, Channel, channel_at}
 use Rattle.hub_base.specs.Ready.{port_of}
 use Rattle.hub_base.specs.Steps.{fault_of, effect, tells}
 use Rattle.hub_base.specs.Runs.{state, kept}
-use Rattle.hub_base.specs.Text.{steps_of}
-use Rattle.hub_base.specs.Reading.{is_exit}
 use Rattle.hub_laws.specs.Sound.{IsSound, Apart}
 use Rattle.std.proofs.lemmas.Bool.{or_parts}
 use Rattle.hub_laws.proofs.Counts.{counts-law}
@@ -45,9 +43,8 @@ use Rattle.hub_core.proofs.Readiness.{count-ports, get_within, length-buffer_of}
 use Rattle.hub_core.proofs.Effects.{fault_on-as, effect_on-as}
 use Rattle.hub_core.proofs.Stalls.{open_on-as, refusal_of-as, count-calls}
 use Rattle.hub_laws.proofs.Limits.{gone-below}
-use Rattle.hub_laws.proofs.Account.{procs-of}
-use Rattle.hub_laws.proofs.Lasting.{head-after}
-use Rattle.hub_base.specs.State.{opening}
+use Rattle.hub_base.proofs.StepCounts.{steps-length}
+use Rattle.hub_laws.proofs.Lasting.{procs-after}
 
 -- ---- the ports
 pub count-counts : (s : State) (m : MachineLists) → Matches s m → length m.counts ≡ length s.channels
@@ -61,14 +58,6 @@ channel_made s m p h made =
 
 fits_by : (s : State) (m : MachineLists) (p : Port) (c : Channel) → IsSound s → Matches s m → channel_at s p ≡ Some c → BufferFits m.board p
 fits_by s m p c sound h e = rw (port-lists_of s m p c h e) (omega (arith, length-buffer_of c, (sound.ports p c e).fits))
-
-at_most_one : (b : Bool) → cond b 0 1 ≤ 1
-at_most_one true = omega arith
-at_most_one false = omega arith
-
-pub steps-length : (es : List Entry) → steps_of es ≤ length es
-steps-length [] = omega arith
-steps-length (e ∷ es) = omega (arith, at_most_one (is_exit e.step), steps-length es)
 
 can_count : (head : Head) (es : List Entry) (m : MachineLists) (p : Port) (c : Channel) → Follows head es m → m.steps < 2 ^ 32 - 1
     → channel_at (state head es) p ≡ Some c → CanCount m.counts p
@@ -107,7 +96,7 @@ room_left m pid r h few =
 pub gone_here : (m : MachineLists) (q : ℕ) → IsReached m → gone_on m.gone q ≡ true → q < m.board.procs
 gone_here m q r h =
     let there = gone-below r.0 r.1 q (sym (r.2.matches.gone q) ∙ h) in
-    let procs : (state r.0 r.1).head.procs ≡ r.0.procs = procs-of (head-after (opening r.0) r.1) in
+    let procs : (state r.0 r.1).head.procs ≡ r.0.procs = procs-after r.0 r.1 in
     omega (arith, there, r.2.matches.procs, procs)
 
 -- what is known behind a step, before the stall rule

@@ -7,7 +7,7 @@ ghost use Rattle.hub_base.specs.Head.{AreOf, IsHead};
 ghost use Rattle.hub_base.specs.Lines.{line};
 ghost use Rattle.hub_base.specs.Reading.{HasEntry, read_text, text};
 ghost use Rattle.hub_base.specs.Text.{IsText};
-ghost use Rattle.hub_text.specs.ReadJournal.{Gives, IsFaultOf};
+ghost use Rattle.hub_base.specs.ReadJournal.{Gives, IsFaultOf};
 ghost use Rattle.hub_text.specs.Writing.{HasRoomFor};
 
 use crate::{CaseRoom, ShortEntries};

@@ -25,14 +25,14 @@ use Rattle.hub_laws.proofs.Limits.{limits-law}
 use Rattle.hub_laws.proofs.States.{count-law}
 use Rattle.hub_laws.proofs.Rules.{state-sound}
 use Rattle.hub_core.specs.HubView.{HubView}
-use Rattle.hub_core.proofs.Reached.{steps-length}
+use Rattle.hub_base.proofs.StepCounts.{steps-append, steps-length}
+use Rattle.hub_laws.proofs.Lasting.{procs-after}
 use Rattle.hub_chapters.specs.Checkpoint.{checkpoint, send_again, port_again, ports_again, call_again, exited}
 use Rattle.hub_chapters.proofs.Checkpoints.{checkpoint-law}
 use Rattle.hub_base.specs.declared.limits.TheConstants.{GREATEST_PID, GREATEST_PORT, MOST_VALUE_BYTES}
 use Rattle.hub_base.specs.Values.{cases_or}
 use Rattle.hub_cut.specs.declared.limits.TheConstants.{LINE_BYTES, CASE_BYTES, CHECKPOINT_BYTES, CHAPTER_BYTES, MOST_LINE_BYTES}
 use Rattle.hub_cut.specs.ChapterText.{most_line, most_lines, counted, counted_in, FitLines, FitsText}
-use Rattle.hub_cut.proofs.Parts.{procs_same, steps-append}
 
 -- Fields
 
@@ -204,7 +204,7 @@ checkpoint_lines h es head fits =
       (checkpoint-law h es).short,
       head.1,
       count-law s (state-sound h es),
-      procs_same h es,
+      procs-after h es,
     )
 
 pub checkpoint_fits : (h : Head) (es : List Entry) → IsHead h → AllByRecursion (Fits h.edition) (checkpoint (state h es)) →

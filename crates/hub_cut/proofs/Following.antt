@@ -8,7 +8,7 @@ use Rattle.hub_base.specs.Journal.{JournalView}
 use Rattle.hub_base.specs.Runs.{state}
 use Rattle.hub_base.specs.Steps.{refusal}
 use Rattle.hub_base.specs.Text.{IsText}
-use Rattle.hub_text.proofs.OneReading.{one-text, apart}
+use Rattle.hub_base.proofs.OneReading.{one-text, apart}
 use Rattle.hub_laws.specs.Journals.{IsLegal}
 use Rattle.hub_laws.proofs.Journals.{begins-law}
 use Rattle.hub_chapters.specs.Chapters.{Chapters, last_chapter}
@@ -18,7 +18,8 @@ use Rattle.hub_cut.specs.declared.fault.ChainFault.{ChainFault}
 use Rattle.hub_cut.specs.declared.fault.ChainFault.TheVariants as chain
 use Rattle.hub_cut.specs.Chains.{IsChapter, Stands}
 use Rattle.hub_cut.specs.Faults.{Says, RefusedAt, DifferAt, GoesOn, IsNotLegal, DoesNotFollow}
-use Rattle.hub_cut.proofs.Places.{around, still_there}
+use Rattle.hub_base.proofs.Lists.{around}
+use Rattle.hub_cut.proofs.Places.{still_there}
 
 -- What is refused
 

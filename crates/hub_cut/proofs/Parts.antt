@@ -3,13 +3,12 @@ use Rattle.hub_laws.proofs.Prelude.{◌≡◌, Bool, true, false, List, [], ◌�
 use Rattle.hub_laws.proofs.Prelude.{◌==◌, ◌-◌, cond, length, arith, map, take, filter, slice_get, option_map_or, add-one, append_assoc, append-nil, get_or}
 use Rattle.hub_laws.proofs.Prelude.{drop, steps_of, and_parts, has_gone, map-append, Entry}
 use Rattle.hub_laws.proofs.Prelude.{Port, Channel, State, OpenCall, channel_at, buffer_of}
-use Rattle.hub_laws.proofs.Prelude.{lt-ltb, Pid, Head, refusal, is_waiting, opening, state, MOST_PORTS}
+use Rattle.hub_laws.proofs.Prelude.{lt-ltb, Pid, Head, refusal, is_waiting, state, MOST_PORTS}
 use Rattle.std.specs.List.{range_with_len, list_all}
 use Rattle.std.proofs.lemmas.List.{take_all}
 use Rattle.hub_base.specs.declared.fault.Fault.TheVariants as fault
 use Rattle.hub_laws.specs.Journals.{IsLegal}
-use Rattle.hub_laws.proofs.Account.{procs-of}
-use Rattle.hub_laws.proofs.Lasting.{head-after, ports-law}
+use Rattle.hub_laws.proofs.Lasting.{ports-law, procs-after}
 use Rattle.hub_laws.proofs.Rules.{state-sound}
 use Rattle.hub_laws.proofs.States.{count-law}
 use Rattle.hub_core.specs.Looks.{value_at}
@@ -91,16 +90,12 @@ all_at f (y ∷ ys) (suc i) x a h e = all_at f ys i x (and_parts (f y) (list_all
 pub grown : (base old new part next whole : List Entry) → new ≡ old ++ next → old ≡ base ++ part → whole ≡ part ++ next → new ≡ base ++ whole
 grown base old new part next whole a b c = a ∙ ap (λ xs. xs ++ next) b ∙ append_assoc base part next ∙ ap (λ xs. base ++ xs) (sym c)
 
--- A list at a place, and how many entries are no exits
+-- A list at a place
 
 pub parts_at : (es : List Entry) (i : ℕ) (e : Entry) → i < length es → e ≡ get_or es i e → es ≡ take i es ++ e ∷ drop (suc i) es
 parts_at [] i e h is = absurd (omega arith)
 parts_at (x ∷ es) zero e h is = ap (λ (y : Entry). y ∷ es) (sym is)
 parts_at (x ∷ es) (suc i) e h is = ap (λ ys. x ∷ ys) (parts_at es i e (omega arith) is)
-
-pub steps-append : (xs ys : List Entry) → steps_of (xs ++ ys) ≡ steps_of xs + steps_of ys
-steps-append [] ys = omega arith
-steps-append (x ∷ xs) ys = omega (arith, steps-append xs ys)
 
 -- Who has gone, from a refusal
 
@@ -120,11 +115,8 @@ gone_is s q below = rw (lt-ltb q.0 s.head.procs below) (by (has_gone s q.0))
 pub all_ports : (h : Head) (es : List Entry) (n : ℕ) → MOST_PORTS ≤ n → take n (state h es).channels ≡ (state h es).channels
 all_ports h es n enough = take_all n (state h es).channels (let most = ports-law h es in omega arith)
 
-pub procs_same : (h : Head) (es : List Entry) → (state h es).head.procs ≡ h.procs
-procs_same h es = procs-of (head-after (opening h) es)
-
 pub all_calls : (h : Head) (es : List Entry) (n : ℕ) → h.procs ≤ n → take n (state h es).parked ≡ (state h es).parked
-all_calls h es n enough = take_all n (state h es).parked (let most = count-law (state h es) (state-sound h es) in let n = procs_same h es in omega arith)
+all_calls h es n enough = take_all n (state h es).parked (let most = count-law (state h es) (state-sound h es) in let n = procs-after h es in omega arith)
 
 -- A cut
 

@@ -7,8 +7,6 @@ use Rattle.std.proofs.lemmas.List.{length-take, take-append-drop}
 use Rattle.std.proofs.lemmas.Option.{slice_get_within}
 use Rattle.std.proofs.Math.Seq.{take-length}
 use Rattle.hub_laws.proofs.Totals.{take_next}
-use Rattle.hub_base.specs.Entry.{Entry}
-use Rattle.hub_base.specs.Text.{one_step, steps_of}
 
 -- where one of two lists has an entry at a place, and both are the same before it, the other has so many
 pub reaches : {A : Type 0} (n : ℕ) (xs ys : List A) (y : A) → take n xs ≡ take n ys → slice_get ys n ≡ Some y → n ≤ length xs
@@ -31,20 +29,8 @@ still_there n [] ys x there = cc
 still_there zero (z ∷ zs) ys x there = there
 still_there (suc n) (z ∷ zs) ys x there = still_there n zs ys x there
 
--- a list around one of its elements
-pub around : {A : Type 0} (n : ℕ) (xs : List A) (x : A) → slice_get xs n ≡ Some x → xs ≡ take n xs ++ x ∷ drop (suc n) xs
-around n [] x there = cc
-around zero (z ∷ zs) x there = cc
-around (suc n) (z ∷ zs) x there = ap (λ ys. z ∷ ys) (around n zs x there)
-
 -- what holds of all holds there
 pub all_there : {A : Type 0} (f : A → Bool) (n : ℕ) (xs : List A) (x : A) → list_all f xs ≡ true → slice_get xs n ≡ Some x → f x ≡ true
 all_there f n [] x all there = cc
 all_there f zero (z ∷ zs) x all there = let here : z ≡ x = cc in ap f (sym here) ∙ (and_parts (f z) (list_all f zs) all).0
 all_there f (suc n) (z ∷ zs) x all there = all_there f n zs x (and_parts (f z) (list_all f zs) all).1 there
-
--- the steps up to an entry, and its own
-pub steps_there : (n : ℕ) (es : List Entry) (e : Entry) → slice_get es n ≡ Some e → steps_of (take n es) + one_step e ≤ steps_of es
-steps_there n [] e there = absurd (cc)
-steps_there zero (f ∷ fs) e there = let here : f ≡ e = cc in omega (arith, ap one_step here)
-steps_there (suc n) (f ∷ fs) e there = omega (arith, steps_there n fs e there)

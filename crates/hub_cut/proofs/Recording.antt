@@ -14,10 +14,10 @@ use Rattle.hub_base.specs.declared.head.Edition.{Edition}
 use Rattle.hub_laws.specs.Journals.{IsLegal}
 use Rattle.hub_laws.proofs.Lasting.{ports-law}
 use Rattle.hub_laws.proofs.Journals.{begins-law}
-use Rattle.hub_laws.proofs.Limits.{limits-law}
+use Rattle.hub_base.proofs.StepCounts.{steps-append}
+use Rattle.hub_laws.proofs.Limits.{limits-law, starts-few}
 use Rattle.hub_laws.specs.Limits.{all_starts}
 use Rattle.hub_core.specs.HubView.{HubView, ShortInMemory, Steps, Refuses, with_entry, state_of}
-use Rattle.hub_core.proofs.Hubs.{starts-few}
 use Rattle.hub_core.specs.Looks.{look_at, counts_of}
 use Rattle.hub_chapters.specs.Alike.{afresh}
 use Rattle.hub_chapters.specs.Carried.{base_count, received_count}
@@ -38,7 +38,6 @@ use Rattle.hub_cut.specs.Totals.{in_64_bits, totals_of, totals_at, with_base}
 use Rattle.hub_cut.specs.Recorder.{IsRecorder, IsShort, RecorderView, Records, RecordsStep, RefusesStep, head_of_all, is_full}
 use Rattle.hub_cut.specs.Recorder.{last_checkpoint, least_of, since_cut, with_next, hub_in, IsKeep, chapter_out, begins, out_or}
 use Rattle.hub_cut.proofs.ChapterTexts.{checkpoint-no_start, counted_in-append, counts_longer, starts-append}
-use Rattle.hub_cut.proofs.Parts.{steps-append}
 
 -- The last chapter, and the history
 

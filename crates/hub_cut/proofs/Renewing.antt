@@ -22,7 +22,8 @@ use Rattle.hub_chapters.proofs.Checkpoints.{checkpoint-law}
 use Rattle.hub_chapters.proofs.Editions.{checkpoint-fits}
 use Rattle.hub_cut.specs.Cut.{CanMake, Makes, hub_with, with_entries}
 use Rattle.hub_cut.specs.Written.{port_entries, sent_entries}
-use Rattle.hub_cut.proofs.Parts.{checkpoint_within, steps-append}
+use Rattle.hub_base.proofs.StepCounts.{steps-append}
+use Rattle.hub_cut.proofs.Parts.{checkpoint_within}
 
 -- A list of entries that a hub takes, in two parts
 

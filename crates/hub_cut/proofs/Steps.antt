@@ -1,41 +1,21 @@
 -- The journal that a text says, and a hub that makes its steps.
-use Rattle.std.proofs.Common.{◌≡◌, ℕ, ◌+◌, ◌≤◌, Bool, List, [], ◌∷◌, Some, refl, ap, sym, subst, arith, cond, length, take, zero-le, length-append}
-use Rattle.std.specs.List.{flat_map, join_with_byte}
-use Rattle.std.specs.Prelude.{slice_get, decimal, Ok}
+use Rattle.std.proofs.Common.{◌≡◌, ℕ, ◌+◌, ◌≤◌, Bool, List, Some, refl, ap, sym, subst, arith, cond, take}
+use Rattle.std.specs.Prelude.{slice_get}
 use Rattle.hub_base.specs.Entry.{Entry, Step}
 use Rattle.hub_base.specs.declared.entry.Step.TheVariants.{Exit}
 use Rattle.hub_base.specs.declared.fault.Fault.{Fault}
 use Rattle.hub_base.specs.declared.fault.Fault.TheVariants as fault
 use Rattle.hub_base.specs.declared.head.Head.{Head}
-use Rattle.hub_base.specs.declared.limits.TheConstants.{MOST_BYTES, MOST_STEPS}
-use Rattle.hub_base.specs.Head.{AreOf}
+use Rattle.hub_base.specs.declared.limits.TheConstants.{MOST_STEPS}
 use Rattle.hub_base.specs.Journal.{JournalView}
-use Rattle.hub_base.specs.Lines.{line, step_fields}
-use Rattle.hub_base.specs.Reading.{head_lines}
 use Rattle.hub_base.specs.Runs.{state}
 use Rattle.hub_base.specs.Steps.{refusal}
 use Rattle.hub_base.specs.Text.{IsText, steps_of, one_step}
-use Rattle.hub_text.proofs.Heads.{text-again}
-use Rattle.hub_text.proofs.OneReading.{found-fits}
+use Rattle.hub_base.proofs.OneReading.{few-entries}
 use Rattle.hub_laws.specs.Journals.{IsLegal}
 use Rattle.hub_core.specs.HubView.{HubView, Refuses, places_after}
 use Rattle.hub_cut.specs.Chains.{IsHubOf, MakesText}
 use Rattle.hub_cut.specs.Faults.{IsRefused, refused_at}
-
--- What a text says
-
-pub fits_all : (text : List ℕ) (h : Head) (es : List Entry) → IsText text h es → AreOf h.edition es
-fits_all text h es is = found-fits text (Ok (record { head = h; entries = es })) (text-again text h es is)
-
-a_byte : (e : Entry) → 1 ≤ length (line e)
-a_byte e = omega (arith, length-append (join_with_byte 32 (decimal e.pid.0 ∷ step_fields e.step)) (10 ∷ []))
-
-a_byte_each : (es : List Entry) → length es ≤ length (flat_map line es)
-a_byte_each [] = zero-le
-a_byte_each (e ∷ es) = omega (arith, length-append (line e) (flat_map line es), a_byte e, a_byte_each es)
-
-pub few_entries : (text : List ℕ) (h : Head) (es : List Entry) → IsText text h es → length es ≤ MOST_BYTES
-few_entries text h es is = omega (arith, is.bytes_fit, ap length is.spelled, length-append (head_lines h) (flat_map line es), a_byte_each es)
 
 -- A hub that makes the steps of a journal, without reserved ones
 
@@ -67,6 +47,6 @@ makes_text text j hub is of legal =
     record {
       spelled = subst (λ (h : Head). IsText text h hub.journal) (sym of.head) (subst (λ (es : List Entry). IsText text j.head es) (sym of.entries) is);
       legal = legal;
-      few = rw of.entries (few_entries text j.head j.entries is);
+      few = rw of.entries (few-entries text j.head j.entries is);
       limit = of.limit;
     }

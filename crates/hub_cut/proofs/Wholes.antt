@@ -1,15 +1,16 @@
 -- Texts are those of one list of chapters at most, so a chain tells whether they are whole.
-use Rattle.std.proofs.Common.{◌≡◌, ◌∙◌, ℕ, ◌<◌, List, [], ◌∷◌, ◌++◌, Option, None, Some, refl, ap, sym, subst, arith, length, take, ◌≤◌, ◌⊎◌, inl, inr}
+use Rattle.std.proofs.Common.{◌≡◌, ◌∙◌, ℕ, ◌<◌, List, [], ◌∷◌, ◌++◌, append_assoc, Option, None, Some, refl, ap, sym, subst}
+use Rattle.std.proofs.Common.{arith, length, take, ◌≤◌, ◌⊎◌, inl, inr}
 use Rattle.std.specs.Prelude.{Result, Ok, Err, IfErr}
 use Rattle.std.proofs.lemmas.Bool.{cases_lt}
-use Rattle.std.proofs.lemmas.List.{append_cancel_left, length_push, take-append-le}
+use Rattle.std.proofs.lemmas.List.{append_cancel_left, length_push, length-append, take-append-le}
 use Rattle.std.proofs.Math.Seq.{take-length}
 use Rattle.hub_base.specs.Entry.{Entry}
 use Rattle.hub_base.specs.declared.head.Head.{Head}
 use Rattle.hub_base.specs.Journal.{JournalView}
 use Rattle.hub_base.specs.Runs.{state}
 use Rattle.hub_base.specs.Text.{IsText}
-use Rattle.hub_text.proofs.OneReading.{one-text}
+use Rattle.hub_base.proofs.OneReading.{one-text}
 use Rattle.hub_chapters.specs.Chapters.{Chapters, last_chapter, AreLegal}
 use Rattle.hub_chapters.specs.Chapters.Chapters.{First, Cut}
 use Rattle.hub_chapters.specs.Checkpoint.{checkpoint}
@@ -68,10 +69,6 @@ one_list h k (Cut c later) (Cut d other) texts a b =
 
 -- Texts that are whole
 
--- no text is whole alone
-pub none_whole : ¬ AreWhole []
-none_whole whole = let some = some_text whole.head whole.chapters [] whole.texts_are in omega arith
-
 chapters_whole : (h : Head) (c : Chapters) (texts : List (List ℕ)) → AreTexts h c texts → AreLegal h c → AreWhole texts
 chapters_whole h c texts is legal =
     let law = chapters-law h c in
@@ -108,8 +105,14 @@ begins_whole h (Cut c later) texts n is legal some few =
         let same : n ≡ length texts = omega arith in
         subst AreWhole (sym (ap (λ k. take k texts) same ∙ take-length texts)) (chapters_whole h (Cut c later) texts is legal)
 
-pub whole_before : (texts : List (List ℕ)) (n : ℕ) → AreWhole texts → 0 < n → n ≤ length texts → AreWhole (take n texts)
-whole_before texts n whole some few = begins_whole whole.head whole.chapters texts n whole.texts_are whole.whole.chapters_legal some few
+-- as one is up to some text
+whole_to : (texts : List (List ℕ)) (text : List ℕ) (later : List (List ℕ)) → AreWhole (texts ++ text ∷ later) → AreWhole (texts ++ text ∷ [])
+whole_to texts text later given =
+    let first : List (List ℕ) = texts ++ text ∷ [] in
+    let whole : AreWhole (first ++ later) = subst AreWhole (sym (append_assoc texts (text ∷ []) later)) given in
+    subst AreWhole (take-append-le (length first) first later (omega arith) ∙ take-length first)
+    (begins_whole whole.head whole.chapters (first ++ later) (length first) whole.texts_are whole.whole.chapters_legal
+    (omega (arith, length_push texts text)) (omega (arith, length-append first later)))
 
 -- A text that is not the next
 
@@ -148,14 +151,14 @@ not_next text old not texts at whole = by whole.head whole.chapters whole.texts_
 
 pub only_one : {A : Type 0} (text : List ℕ) (given : Option JournalView) (r : Result A ChainFault) → given ≡ None
     → IfErr r (λ f. ¬ (f ≡ chain.NoMemory) → (h : Head) (es : List Entry) → ¬ IsChapter text h (First es))
-    → IfErr r (λ f. ¬ (f ≡ chain.NoMemory) → (texts : List (List ℕ)) → IsAt given texts → ¬ AreWhole (texts ++ text ∷ []))
+    → IfErr r (λ f. ¬ (f ≡ chain.NoMemory) → (texts later : List (List ℕ)) → IsAt given texts → ¬ AreWhole (texts ++ text ∷ later))
 only_one text given (Ok x) none not = tt
 only_one text given (Err f) none not =
-    λ why texts at. not_first text (not why) texts (subst (λ (o : Option JournalView). IsAt o texts) none at)
+    λ why texts later at whole. not_first text (not why) texts (subst (λ (o : Option JournalView). IsAt o texts) none at) (whole_to texts text later whole)
 
 pub only_more : {A : Type 0} (text : List ℕ) (given : Option JournalView) (old : JournalView) (r : Result A ChainFault) → given ≡ Some old
     → IfErr r (λ f. ¬ (f ≡ chain.NoMemory) → (h : Head) (c : Chapters) (later : List Entry) → Stands old h c → ¬ IsChapter text h (Cut c later))
-    → IfErr r (λ f. ¬ (f ≡ chain.NoMemory) → (texts : List (List ℕ)) → IsAt given texts → ¬ AreWhole (texts ++ text ∷ []))
+    → IfErr r (λ f. ¬ (f ≡ chain.NoMemory) → (texts later : List (List ℕ)) → IsAt given texts → ¬ AreWhole (texts ++ text ∷ later))
 only_more text given old (Ok x) some not = tt
 only_more text given old (Err f) some not =
-    λ why texts at. not_next text old (not why) texts (subst (λ (o : Option JournalView). IsAt o texts) some at)
+    λ why texts later at whole. not_next text old (not why) texts (subst (λ (o : Option JournalView). IsAt o texts) some at) (whole_to texts text later whole)

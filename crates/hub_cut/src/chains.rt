@@ -85,8 +85,8 @@ impl Chain {
         ensures ok { IfOk result (λ longer. (texts : List (List ℕ))
             → IsAt chain texts → StandsAt longer (texts ++ text.now ∷ [])) }
         ensures refused { IfErr result (IsNoNext chain text.now) }
-        ensures only { IfErr result (λ fault. ¬ (fault ≡ why.NoMemory) → (texts : List (List ℕ))
-            → IsAt chain texts → ¬ AreWhole (texts ++ text.now ∷ [])) }
+        ensures only { IfErr result (λ fault. ¬ (fault ≡ why.NoMemory) → (texts later : List (List ℕ))
+            → IsAt chain texts → ¬ AreWhole (texts ++ text.now ∷ later)) }
     {
         match chain {
             None => Chain::first(alloc, text),

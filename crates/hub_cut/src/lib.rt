@@ -24,7 +24,7 @@ mod totals;
 pub use beginnings::is_same_entry;
 pub use chains::Chain;
 pub use checkpoint_texts::checkpoint_text;
-pub use checkpoints::checkpoint_of;
+pub use checkpoints::{checkpoint_of, has_gone};
 pub use cuts::{cut, cut_journal};
 pub use fault::ChainFault;
 pub use limits::MOST_KEEP;

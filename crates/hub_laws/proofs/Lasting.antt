@@ -2,7 +2,7 @@
 use Rattle.hub_laws.proofs.Prelude.{◌≡◌, false, List, [], ◌∷◌, refl, ◌∙◌, Option, Some, None, ℕ, ◌==◌, ◌≤◌, length, arith, ◌&&◌, ◌||◌}
 use Rattle.hub_laws.proofs.Prelude.{◌⊎◌, Entry, Fault, Head, MOST_PORTS, is_exit, admits, moves, state_after, state, State, opening}
 use Rattle.hub_laws.proofs.Prelude.{refusal, turn, has_gone, port_touched_by, IsSound, opened_by, is_start_of, Pid, not, list_any, ap}
-use Rattle.hub_laws.proofs.Account.{deeds_of}
+use Rattle.hub_laws.proofs.Account.{deeds_of, procs-of}
 use Rattle.hub_laws.proofs.Gone.{leaves-by, still-here}
 use Rattle.hub_laws.proofs.Entries.{turn-account}
 use Rattle.hub_laws.proofs.Does.{does-few}
@@ -43,3 +43,7 @@ ports_after s (e ∷ es) sound few =
 -- no more ports are made than there may be
 pub ports-law : (head : Head) (es : List Entry) → length (state head es).channels ≤ MOST_PORTS
 ports-law head es = ports_after (opening head) es (sound-opening head) (omega arith)
+
+-- there are as many processes as the head says
+pub procs-after : (head : Head) (es : List Entry) → (state head es).head.procs ≡ head.procs
+procs-after head es = procs-of (head-after (opening head) es)

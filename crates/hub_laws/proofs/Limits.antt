@@ -5,7 +5,9 @@ use Rattle.hub_laws.proofs.Prelude.{OpenCall, opening, turn, has_gone, one_step,
 use Rattle.hub_laws.proofs.Prelude.{is_start, all_starts, is_exit, is_among, AreOf, has_lives, is_of, Step, Edition}
 use Rattle.hub_laws.proofs.Prelude.{Exit, Start, Make, Call, Close, Cancel, Reopen, filter, not, list_any, ◌&&◌, ◌==◌, ◌++◌, if◌then◌else◌, and_parts}
 use Rattle.hub_laws.proofs.Prelude.{eqb-true, or_cases, inl, inr, subst, length-append}
+use Rattle.std.proofs.Common.{◌*◌}
 use Rattle.std.specs.List.{list_all}
+use Rattle.hub_laws.specs.Journals.{IsLegal}
 use Rattle.hub_laws.proofs.Ready.{Admitted, admitted, by-refusal}
 use Rattle.hub_laws.proofs.Leaving.{one}
 use Rattle.hub_laws.proofs.Distinct.{calls_by, among-calls_by, count-below}
@@ -199,3 +201,24 @@ limits-law head es = record {
   length = omega (arith, length_after (opening head) es (gone_opening head), gone-law head es);
   none = λ old of_edition. starts_none head.edition (opening head) es old of_edition;
 }
+
+-- starts are steps
+pub starts-few : (es : List Entry) → length (all_starts es) ≤ steps_of es
+starts-few [] = omega arith
+starts-few (e ∷ es) = by e.step (starts-few es)
+  where
+    by : (step : Step) → length (all_starts es) ≤ steps_of es →
+        length (all_starts (record { pid = e.pid; step = step } ∷ es)) ≤ steps_of (record { pid = e.pid; step = step } ∷ es)
+    by (Make cap) h = omega (arith, h)
+    by (Call cases default word) h = omega (arith, h)
+    by (Close p) h = omega (arith, h)
+    by Exit h = omega (arith, h)
+    by (Cancel q) h = omega (arith, h)
+    by (Start q) h = omega (arith, h)
+    by (Reopen p cap) h = omega (arith, h)
+
+-- a legal journal is not longer than its steps, its starts and its processes
+pub legal-short : (head : Head) (journal : List Entry) → IsLegal head journal → length journal ≤ 2 * steps_of journal + head.procs
+legal-short head journal legal =
+    let law = subst (λ (es : List Entry). length es ≤ steps_of es + head.procs + length (all_starts es)) legal (limits-law head journal).length in
+    omega (arith, law, starts-few journal)

@@ -13,6 +13,7 @@ mod last_replies;
 mod legal_journals;
 mod one_ending;
 mod one_port;
+mod own_entries;
 mod received_values;
 mod sound_states;
 
@@ -24,5 +25,6 @@ pub use last_replies::{replies_come, replies_stay};
 pub use legal_journals::{journals_are_legal, journals_are_short, journals_begin, journals_grow};
 pub use one_ending::calls_end_once;
 pub use one_port::one_port_moves;
+pub use own_entries::own_entries_are_asked;
 pub use received_values::received_values_are_told;
 pub use sound_states::states_are_sound;

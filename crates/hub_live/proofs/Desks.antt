@@ -1,7 +1,6 @@
 -- The hub's seat: what a meeting with the seat of a process, and a step, leave in both.
 use Rattle.std.proofs.Common.{◌≡◌, ℕ, suc, ◌+◌, ◌<◌, ◌≤◌, Bool, true, false, cond, List, [], ◌∷◌, ◌++◌, refl, sym, ap, ◌∙◌, subst, arith, Some, None, add-one}
 use Rattle.std.specs.Prelude.{IsSome}
-use Rattle.hub_base.specs.Text.{one_step}
 use Rattle.hub_laws.specs.OnePort.{port_changed_by}
 use Rattle.hub_laws.proofs.Journals.{begins-law}
 use Rattle.hub_laws.proofs.Replies.{own-mine}
@@ -11,7 +10,8 @@ use Rattle.hub_live.specs.Prelude.{IsPrefix, Seat, Pid, Port, Fault, Entry, Even
 use Rattle.hub_live.specs.Prelude.{port_changed, number_of, own, HubView, Steps, Refuses, state_of, Terms, View, LockedView, Serves, IsReplyTo, mark, mark_at}
 use Rattle.hub_live.specs.Prelude.{port_numbered, MarksOne, IsOther, Name, IsHistory, Sees, SeesBoth, grown, with_joined, parted, given_back, IsToken}
 use Rattle.hub_live.specs.Prelude.{IsSingle, SeatView, IsFree, own_of, IsAlone, IsHub, seat_of, Shows}
-use Rattle.hub_live.proofs.Prefixes.{prefix_trans}
+use Rattle.hub_base.proofs.Lists.{prefix_trans}
+use Rattle.hub_base.proofs.StepCounts.{steps-snoc}
 use Rattle.hub_live.proofs.Refusals.{shows}
 use Rattle.hub_live.proofs.Laters.{IsSeatOf, Follows, asked_nothing}
 use Rattle.hub_live.proofs.Marks.{marks_one, mark_other, changed-few}
@@ -55,10 +55,6 @@ refusal_seen {name} {l} {hub} {mine} {s} {pid} back e f d o k seen named same fr
 
 -- ---- the hub after a step
 
-steps_of-snoc : (es : List Entry) (e : Entry) → steps_of (es ++ e ∷ []) ≡ steps_of es + one_step e
-steps_of-snoc [] e = omega arith
-steps_of-snoc (x ∷ es) e = omega (arith, steps_of-snoc es e)
-
 within_after : (b : Bool) (count limit : ℕ) → (b ≡ false → count < limit) → count ≤ limit → count + cond b 0 1 ≤ limit
 within_after true count limit room was = omega arith
 within_after false count limit room was = omega (arith, room refl)
@@ -72,7 +68,7 @@ hub_steps t old new e told is s =
     let legal : IsLegal t.head (old.journal ++ e ∷ []) = (begins-law t.head old.journal []).goes_on e is.history.legal admitted in
     let room : is_exit e.step ≡ false → steps_of old.journal < t.limit = λ h. subst (λ (t : Terms). steps_of old.journal < t.limit) is.terms (s.room h) in
     let within : steps_of (old.journal ++ e ∷ []) ≤ t.limit =
-    subst (λ (n : ℕ). n ≤ t.limit) (sym (steps_of-snoc old.journal e)) (within_after (is_exit e.step) (steps_of old.journal) t.limit room is.within) in
+    subst (λ (n : ℕ). n ≤ t.limit) (sym (steps-snoc old.journal e)) (within_after (is_exit e.step) (steps_of old.journal) t.limit room is.within) in
     record {
       terms = terms;
       most = is.most;

@@ -12,7 +12,7 @@ use Rattle.hub_live.specs.Prelude.{IsPrefix, Seat, Head, Pid, Entry, Event, is_w
 use Rattle.hub_live.specs.Prelude.{name_of, IsHistory, Knows, Sees, SeesBoth, Met, with_joined, parted, given_back, SeatView, IsIdle, IsFree, own_of, IsToken}
 use Rattle.hub_live.specs.Prelude.{IsSingle, IsAlone, seat_of, StandsIn, Later, MadeEntry, AreSeats, LockedView, Made, ServesSeat}
 use Rattle.hub_live.specs.Prelude.{Answers, AnswersNoCall, HasEnded, Step}
-use Rattle.hub_live.proofs.Prefixes.{prefix_self, prefix_trans}
+use Rattle.hub_base.proofs.Lists.{prefix_self, prefix_trans}
 use Rattle.hub_live.proofs.Locks.{served_answers, answers_no_call, parked_call}
 use Rattle.hub_live.proofs.Refusals.{asks_nothing}
 

@@ -2,7 +2,6 @@ pub mod Locks
 pub mod Hearing
 pub mod Marks
 pub mod Openings
-pub mod Prefixes
 pub mod Histories
 pub mod Steps
 pub mod Seats

@@ -6,10 +6,8 @@ use Rattle.std.proofs.lemmas.List.{length-append}
 use Rattle.std.proofs.lemmas.List.Elements.{filter-append}
 use Rattle.std.proofs.lemmas.Bool.Decides.{nat_tests}
 use Rattle.hub_base.specs.declared.fault.Fault.TheVariants as fault
-use Rattle.hub_base.specs.State.{opening}
 use Rattle.hub_base.specs.Steps.{has_gone}
-use Rattle.hub_laws.proofs.Account.{procs-of}
-use Rattle.hub_laws.proofs.Lasting.{head-after}
+use Rattle.hub_laws.proofs.Lasting.{procs-after}
 use Rattle.hub_laws.proofs.Replies.{replies-law}
 use Rattle.hub_core.specs.HubView.{Grows}
 use Rattle.hub_live.specs.Calls.{LeavesRoom, AsksNothing}
@@ -88,7 +86,7 @@ shows t h e fault.NoProcess is below free r = absurd (below_not e.pid.0 (state_o
   arith,
   below,
   ap (λ (t : Terms). t.head.procs) is.terms,
-  procs-of (head-after (opening h.terms.head) h.journal),
+  procs-after h.terms.head h.journal,
 )) (refused_so _ _ _ fault.NoProcess r.1))
 shows t h e fault.Gone is below free r =
     let room : LeavesRoom t e h.journal = λ exit. subst (λ (t : Terms). steps_of h.journal < t.limit) is.terms (r.0 exit) in

@@ -9,7 +9,7 @@ use Rattle.atomic_table.proofs.Lists.{at_set}
 use Rattle.hub_live.specs.Moves.{Looked}
 use Rattle.hub_live.specs.Prelude.{some, none, IsPrefix, get_elem?, Me, step, Allows, Head, Entry, MOST_PORTS, Terms, View, mark, MarksOne, next_word}
 use Rattle.hub_live.specs.Prelude.{IsHistory, Knows, Holds, Fits, Kept, Published, grown}
-use Rattle.hub_live.proofs.Prefixes.{prefix_self, prefix_trans}
+use Rattle.hub_base.proofs.Lists.{prefix_self, prefix_trans}
 use Rattle.hub_live.proofs.Histories.{own_other}
 
 -- after one view was set, each view fits if the others and the new one do

@@ -3,9 +3,13 @@ use Rattle.std.specs.Prelude.{◌≡◌, ◌<◌, ◌-◌, ◌++◌, ◌∷◌, 
 use Rattle.std.specs.List.{fold}
 use Rattle.hub_base.specs.declared.value.Pid.{Pid}
 use Rattle.hub_base.specs.declared.event.Event.{Event}
+use Rattle.hub_base.specs.declared.head.Head.{Head}
+use Rattle.hub_base.specs.Entry.{Entry}
+use Rattle.hub_base.specs.Runs.{moves, state}
 use Rattle.hub_base.specs.Notation.{done}
 use Rattle.hub_base.specs.declared.limits.TheConstants.{MOST_EVENTS, MOST_PROCS}
-use Rattle.hub_live.specs.Locked.{answer_after, answer_for, pids_of}
+use Rattle.hub_laws.specs.Replies.{is_parked}
+use Rattle.hub_live.specs.Locked.{answer_after, answer_for, pids_of, AreReplies, IsReplyTo}
 
 -- what waits for each process, what the last step that was made was answered, whether the one that is being made was answered,
 -- and whose calls it has ended
@@ -47,11 +51,13 @@ abbrev pub room_by : List Pid → Bool → ℕ
 room_by ended false = MOST_EVENTS
 room_by ended true = MOST_PROCS - length ended
 
--- after the events of a step: the first is the answer; each place has the last event of its process behind that, or else
--- what waited there before, but for the process that was answered nothing
-pub record Keeps (old : List (Option Event)) (events : List Event) (now : AnswersView) (answer : Event) : Type 0 where
+-- after the events of a step: the first is the answer, which is the caller's reply unless its call waits; each place has the last
+-- event of its process behind that, or else what waited there before, but for the caller nothing; and replies waited, so replies wait
+pub record Heard (old : AnswersView) (h : Head) (es : List Entry) (e : Entry) (now : AnswersView) : Type 0 where
   pub ended : List Event
-  pub told : events ≡ answer ∷ ended
-  pub places : length now.waiting ≡ length old
-  pub answers : (q : ℕ) → q < length old → answer_for now.waiting q ≡ answer_after old answer.pid ended q
+  pub told : (moves (state h es) e).events ≡ now.last ∷ ended
+  pub places : length now.waiting ≡ length old.waiting
+  pub answers : (q : ℕ) → q < length old.waiting → answer_for now.waiting q ≡ answer_after old.waiting e.pid ended q
   pub pids : now.ended ≡ pids_of ended
+  pub reply : is_parked now.last.what ≡ false → IsReplyTo h e.pid.0 (es ++ e ∷ []) now.last
+  pub replies : AreReplies h es old.waiting → AreReplies h (es ++ e ∷ []) now.waiting

@@ -41,12 +41,15 @@ pub record IsReplyTo (h : Head) (q : ℕ) (es : List Entry) (x : Event) : Type 0
   pub reply : reply q h es ≡ Some x
   pub free : is_waiting (state h es) q ≡ false
 
--- the journal is legal, and an answer that waits is its process's reply. So none waits for a process
--- that has an open call
+-- an answer that waits is its process's reply. So none waits for a process that has an open call
+abbrev pub AreReplies : Head → List Entry → List (Option Event) → Type 0
+AreReplies h es answers = (q : ℕ) → IfSome (answer_for answers q) (IsReplyTo h q es)
+
+-- the journal is legal, and what waits are replies
 pub record IsLawful (hub : HubView) (answers : List (Option Event)) : Type 0 where
   pub legal : IsLegal hub.terms.head hub.journal
   pub places : length answers ≡ MOST_PROCS
-  pub replies : (q : ℕ) → IfSome (answer_for answers q) (IsReplyTo hub.terms.head q hub.journal)
+  pub replies : AreReplies hub.terms.head hub.journal answers
 
 -- ---- a step
 

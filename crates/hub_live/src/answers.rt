@@ -3,9 +3,13 @@
 //! They hear the events of a step. The first is the answer to the step, and whatever waited for its caller is dropped. Each that
 //! follows ends the call of a process, and waits in that process's place until it is picked up.
 
-ghost use Rattle.std.specs.Prelude.{◌≡◌, ◌<◌, ◌↔◌, IsTrue, None, Some, length, slice_set};
-ghost use Rattle.hub_live.specs.Locked.{answer_for};
-ghost use Rattle.hub_live.specs.Answers.{begun, no_answers, without_answer_for};
+ghost use Rattle.std.specs.Prelude.{◌≡◌, ◌<◌, ◌↔◌, IsTrue, List, None, Some, length, slice_set};
+ghost use Rattle.hub_base.specs.Entry.{Entry};
+ghost use Rattle.hub_base.specs.Runs.{moves, state};
+ghost use Rattle.hub_base.specs.Steps.{refusal};
+ghost use Rattle.hub_base.specs.declared.head.Head.{Head};
+ghost use Rattle.hub_live.specs.Locked.{answer_for, AreReplies};
+ghost use Rattle.hub_live.specs.Answers.{begun, no_answers, without_answer_for, hears_all, AnswersView, Heard};
 
 use arrayvec::ArrayVec;
 use hub_base::{Event, Hears, MOST_PROCS, Pid};
@@ -63,8 +67,10 @@ fn clear(waiting: &mut [Option<Event>], pid: Pid)
 
 impl Answers {
     /// None waits.
+    #[tactic(auto, using(crate::proofs::Locks::none_replies))]
     pub fn new() -> Answers
-        ensures { result ≡ no_answers }
+        ensures value { result ≡ no_answers }
+        ensures replies { (h : Head) (es : List Entry) → AreReplies h es result.waiting }
     {
         Answers {
             waiting: [None; MOST_PROCS],
@@ -76,8 +82,12 @@ impl Answers {
 
     /// Begins a step: the next event that is heard is its answer. Until then the answer before stays.
     #[inline(always)]
+    #[tactic(auto, using(crate::proofs::Hearing::heard_so))]
     pub fn begin(&mut self)
-        ensures { self.new ≡ begun self.old }
+        ensures value { self.new ≡ begun self.old }
+        // What is so once the events of a step were heard.
+        ensures heard { (h : Head) (es : List Entry) (e : Entry) (now : AnswersView) → refusal (state h es) e.pid ≡ None
+            → now ≡ hears_all self.new (moves (state h es) e).events → Heard self.old h es e now }
     {
         self.told = false;
     }

@@ -18,8 +18,8 @@ use Rattle.hub_base.specs.Value.{IsValue, content, field_of, value_field}
 use Rattle.hub_base.specs.Content.Content.{Num, Bytes}
 use Rattle.hub_base.specs.Lines.{is_hex, case_field, default_field, select_fields, call_fields, step_fields, line}
 use Rattle.hub_base.specs.Text.{CaseFits, CallFits, StepFits, Fits}
-use Rattle.hub_text.proofs.Decimals.{digits-of}
-use Rattle.hub_text.proofs.HexDigits.{encoded-hex}
+use Rattle.hub_base.proofs.Decimals.{digits-of}
+use Rattle.hub_base.proofs.HexDigits.{encoded-hex}
 use Rattle.hub_picture.specs.Pieces.{joined}
 use Rattle.hub_picture.specs.Plain.{is_plain, IsPlain}
 

@@ -5,7 +5,8 @@ use Rattle.hub_base.specs.Entry.{Entry}
 use Rattle.hub_base.specs.declared.read_fault.Kind.{Kind}
 use Rattle.hub_base.specs.declared.read_fault.Kind.TheVariants.{TooLong}
 use Rattle.hub_base.specs.Reading.{over, counted, is_exit}
-use Rattle.hub_base.specs.Text.{fault_of_entry, steps_of, one_step}
+use Rattle.hub_base.specs.Text.{fault_of_entry, steps_of}
+use Rattle.hub_base.proofs.StepCounts.{steps-snoc}
 use Rattle.hub_replay.specs.Running.{steps_after}
 
 within-by : (b : Bool) (n m : ℕ) → cond b None (Some n) ≡ Some m → (b ≡ false) × (m ≡ n)
@@ -20,10 +21,6 @@ count-by : (exit : Bool) (n : ℕ) → cond exit n (n + 1) ≡ n + cond exit 0 1
 count-by true n = omega arith
 count-by false n = refl
 
-steps_of-more : (es : List Entry) (e : Entry) → steps_of (es ++ e ∷ []) ≡ steps_of es + one_step e
-steps_of-more [] e = omega arith
-steps_of-more (f ∷ es) e = let rest = steps_of-more es e in omega (arith, rest)
-
 -- an entry that is not one too many
 pub record Counted (entries : List Entry) (e : Entry) (steps : ℕ) : Type 0 where
   pub fits : over (steps_of entries) e ≡ false
@@ -35,7 +32,7 @@ entry-counts entries e before steps is after =
     let both = within-by (over (steps_of entries) e) (counted (steps_of entries) e) steps (ap (λ n. steps_after n e) (sym is) ∙ after) in
     record {
       fits = both.0;
-      counted = both.1 ∙ count-by (is_exit e.step) (steps_of entries) ∙ sym (steps_of-more entries e);
+      counted = both.1 ∙ count-by (is_exit e.step) (steps_of entries) ∙ sym (steps-snoc entries e);
     }
 
 -- one that is

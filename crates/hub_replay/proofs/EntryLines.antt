@@ -1,46 +1,22 @@
 -- What the line of an entry says behind the head lines.
-use Rattle.std.proofs.Common.{◌≡◌, ℕ, ◌≤◌, ◌+◌, List, [], ◌∷◌, ◌++◌, codes, refl, ap, ◌∙◌, sym, Result, Ok, Err, append_assoc}
+use Rattle.std.proofs.Common.{◌≡◌, ℕ, ◌≤◌, ◌+◌, List, [], ◌∷◌, ◌++◌, refl, ap, ◌∙◌, sym, Result, Ok, Err, append_assoc}
 use Rattle.std.proofs.Common.{append-nil, true, false, length, length-append, arith, cond}
 use Rattle.std.proofs.Common.{Bool, not, ◌&&◌}
 use Rattle.hub_base.specs.Entry.{Entry}
 use Rattle.hub_base.specs.declared.head.Head.{Head}
-use Rattle.hub_base.specs.declared.head.Edition.{Edition}
-use Rattle.hub_base.specs.declared.head.Edition.TheVariants.{One, Two, Three}
 use Rattle.hub_base.specs.declared.limits.TheConstants.{MOST_BYTES}
 use Rattle.hub_base.specs.declared.read_fault.Kind.{Kind}
 use Rattle.hub_base.specs.declared.read_fault.Kind.TheVariants.{TooLong}
-use Rattle.hub_base.specs.Head.{IsHead}
 use Rattle.hub_base.specs.Lines.{pieces, read_fields}
 use Rattle.hub_base.specs.Reading.{Reading, Reads, Faulty, Row, rows, reading, read_text, faulty_or, entry_says}
 use Rattle.hub_base.specs.Reading.{with_entry, behind, is_exit}
-use Rattle.hub_base.specs.Reading.{header, head_lines, procs_line}
+use Rattle.hub_base.specs.Reading.{head_lines}
 use Rattle.hub_base.specs.Text.{header_row, procs_row}
-use Rattle.hub_text.proofs.Bodies.{rows-line}
-use Rattle.hub_text.proofs.Heads.{heads-again}
-use Rattle.hub_text.proofs.NextLine.{row-fine}
-use Rattle.hub_text.proofs.Numerals.{lacks, lacks-append, decimal-lacks}
-use Rattle.hub_replay.specs.Lines.{IsEntryLine, Says, first_line, says_one}
+use Rattle.hub_base.proofs.Heads.{head-rows, heads-again}
+use Rattle.hub_base.proofs.Running.{row-fine}
+use Rattle.hub_replay.specs.Lines.{IsEntryLine, Says, says_one}
 use Rattle.hub_replay.proofs.LineEnds.{rows-of-line}
-use Rattle.std.specs.Fmt.{decimal}
 use Rattle.std.specs.Prelude.{OnOk, IfErr}
-
-pub first-row : (e : Edition) (x : List ℕ) → rows (first_line e ++ x) ≡ header_row e ∷ rows x
-first-row One x = refl
-first-row Two x = refl
-first-row Three x = refl
-
-module _ (head : Head) (is : IsHead head) where
-  procs-lack : lacks 10 (procs_line head.procs) ≡ true
-  procs-lack = let few = is.1 in lacks-append 10 (codes "procs ") (decimal head.procs) refl (decimal-lacks 10 head.procs (omega arith) (omega arith))
-
-  -- the head lines are two rows
-  pub head-rows : (more : List ℕ) → rows (head_lines head ++ more) ≡ header_row head.edition ∷ procs_row head.procs ∷ rows more
-  head-rows more =
-      ap (λ bs. rows (bs ++ more)) (sym (append_assoc (header head.edition) (codes "\n") (procs_line head.procs ++ codes "\n")))
-      ∙ ap rows (append_assoc (first_line head.edition) (procs_line head.procs ++ codes "\n") more)
-      ∙ first-row head.edition ((procs_line head.procs ++ codes "\n") ++ more)
-      ∙ ap (λ rs. header_row head.edition ∷ rs)
-      (ap rows (append_assoc (procs_line head.procs) (codes "\n") more) ∙ rows-line (procs_line head.procs) more procs-lack)
 
 not-over : (exit : Bool) → (not exit && false) ≡ false
 not-over true = refl

@@ -12,7 +12,7 @@ use Rattle.hub_base.specs.Reading.{Faulty, Row, rows, row_fault, end_of, faulty_
 use Rattle.hub_base.specs.Reading.{procs_say}
 use Rattle.hub_base.specs.Reading.{reading, read_text, header, head_lines, procs_line}
 use Rattle.hub_base.specs.Text.{header_row}
-use Rattle.hub_text.proofs.Heads.{edition-take, procs-take, header-again}
+use Rattle.hub_base.proofs.Heads.{edition-take, procs-take, header-again}
 use Rattle.hub_replay.specs.Lines.{IsLine, IsSecond, first_line}
 use Rattle.hub_replay.proofs.LineEnds.{rows-of-line}
 
@@ -65,10 +65,10 @@ module _ (bytes body : List ℕ) (line : IsLine bytes body) where
   first-read e h = (e, edition-spelled e (sym (ap edition_said alone) ∙ h))
 
 -- ---- the second line
-header-row : (e : Edition) (x : List ℕ) → rows (first_line e ++ x) ≡ header_row e ∷ rows x
-header-row One x = refl
-header-row Two x = refl
-header-row Three x = refl
+pub first-row : (e : Edition) (x : List ℕ) → rows (first_line e ++ x) ≡ header_row e ∷ rows x
+first-row One x = refl
+first-row Two x = refl
+first-row Three x = refl
 
 header-says : (e : Edition) → edition_of (header e) ≡ Some e
 header-says One = refl
@@ -88,7 +88,7 @@ module _ (bytes line body : List ℕ) (edition : Edition) (second : IsSecond byt
   both-rows : (more : List ℕ) → rows (bytes ++ more) ≡ header_row edition ∷ record { bytes = body; whole = true } ∷ rows more
   both-rows more =
       ap (λ bs. rows (bs ++ more)) second.is ∙ ap rows (append_assoc (first_line edition) line more)
-      ∙ header-row edition (line ++ more) ∙ ap (λ rs. header_row edition ∷ rs) (rows-of-line line body more second.whole)
+      ∙ first-row edition (line ++ more) ∙ ap (λ rs. header_row edition ∷ rs) (rows-of-line line body more second.whole)
 
   both-alone : rows bytes ≡ header_row edition ∷ record { bytes = body; whole = true } ∷ []
   both-alone = ap rows (sym (append-nil bytes)) ∙ both-rows []

@@ -4,8 +4,8 @@ use Rattle.std.proofs.Common.{◌∙◌, sym, arith}
 use Rattle.std.proofs.Common.{append_assoc}
 use Rattle.std.proofs.lemmas.List.Sums.{sum_by-append}
 use Rattle.hub_base.specs.Reading.{rows}
-use Rattle.hub_text.proofs.Bodies.{rows-line}
-use Rattle.hub_text.proofs.Numerals.{lacks}
+use Rattle.hub_base.proofs.Bodies.{rows-line}
+use Rattle.hub_base.proofs.Numerals.{lacks}
 use Rattle.hub_replay.specs.Verify.{newlines_in}
 use Rattle.hub_replay.specs.Lines.{IsLine}
 

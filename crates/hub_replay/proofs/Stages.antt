@@ -17,14 +17,13 @@ use Rattle.hub_base.specs.Reading.{Reading, Reads, Faulty, Row, rows, reading, r
 use Rattle.hub_base.specs.Reading.{entries_from, with_entry}
 use Rattle.hub_base.specs.Reading.{behind, over, counted, head_lines}
 use Rattle.hub_base.specs.Text.{IsText, header_row, procs_row, row_of, steps_of, fault_of_entry}
-use Rattle.hub_text.proofs.Bodies.{rows-entries}
-use Rattle.hub_text.proofs.Heads.{heads-again, header-again, text-take}
-use Rattle.hub_text.proofs.NextLine.{row-fine}
-use Rattle.hub_text.proofs.Running.{entries-again}
+use Rattle.hub_base.proofs.Bodies.{rows-entries}
+use Rattle.hub_base.proofs.Heads.{head-rows, heads-again, header-again, text-take}
+use Rattle.hub_base.proofs.Running.{entries-again, row-fine}
 use Rattle.hub_replay.specs.declared.running.Running.{Running}
 use Rattle.hub_replay.specs.Lines.{IsLine, first_line}
 use Rattle.hub_replay.specs.Stands.{InHead, IsAt}
-use Rattle.hub_replay.proofs.EntryLines.{first-row, head-rows}
+use Rattle.hub_replay.proofs.FirstLines.{first-row}
 use Rattle.hub_replay.proofs.LineEnds.{rows-of-line}
 
 fault-by : (b : Bool) (k : ℕ) (said : Reading) (kind : Kind) → cond b (Some TooLong) None ≡ Some kind → cond b (Faulty k TooLong) said ≡ Faulty k kind

@@ -18,7 +18,7 @@ use Rattle.hub_live.specs.Name.{Name}
 use Rattle.hub_live.specs.SeatView.{SeatView}
 use Rattle.hub_live.specs.Calls.{Later, AreSeats}
 use Rattle.hub_scenario.specs.Scenario.{ScenarioData, run_head}
-use Rattle.hub_runner.specs.Asked.{Asked, asked}
+use Rattle.hub_laws.specs.Asked.{Asked, asked}
 use Rattle.hub_runner.specs.Ports.{makes_of, BeginsWithPorts}
 use Rattle.hub_runner.specs.Running.{AreMakes, IsReady}
 use Rattle.hub_runner.specs.Scripts.{made_by}

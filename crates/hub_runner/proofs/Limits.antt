@@ -18,17 +18,18 @@ use Rattle.hub_laws.specs.Replies.{own}
 use Rattle.hub_live.specs.Name.{Name}
 use Rattle.hub_live.specs.SeatView.{SeatView}
 use Rattle.hub_live.specs.Calls.{AreSeats, StandsIn, EndsIn}
-use Rattle.hub_live.proofs.Prefixes.{prefix_trans}
+use Rattle.hub_base.proofs.Lists.{prefix_trans}
 use Rattle.hub_scenario.specs.Scenario.{ScenarioData, run_head}
 use Rattle.hub_runner.specs.declared.fault.RunFault.{RunFault}
 use Rattle.hub_runner.specs.declared.fault.RunFault.TheVariants as run
-use Rattle.hub_runner.specs.Asked.{asked}
+use Rattle.hub_laws.specs.Asked.{asked}
 use Rattle.hub_runner.specs.CutShort.{ComesTo, LeavesLast, AllCome, OneGoesOn, IsCutShort}
 use Rattle.hub_runner.specs.Ports.{makes_of, BeginsWithPorts}
 use Rattle.hub_runner.specs.Running.{AreMakes, SawFull, HasCome, MeetsLimit, HaveEnded, ShowPorts}
 use Rattle.hub_runner.specs.Scripts.{made_by}
 use Rattle.hub_runner.specs.Working.{asked_of, has_exited}
-use Rattle.hub_runner.proofs.Stops.{steps_of-append, steps_grow}
+use Rattle.hub_base.proofs.StepCounts.{steps-append}
+use Rattle.hub_runner.proofs.Stops.{steps_grow}
 use Rattle.hub_runner.proofs.Ports.{asked_none, makes_begin, no_makes, only_makes, ports_first}
 use Rattle.hub_runner.proofs.Beginnings.{made_by_none}
 use Rattle.hub_runner.proofs.Runs.{in_journal, pid_at, all_processes}
@@ -80,7 +81,7 @@ leaves_last s journal st few late before e after whole of is =
               saw.full,
               steps_grow saw.early before p,
               ap steps_of whole,
-              steps_of-append before (e ∷ after),
+              steps-append before (e ∷ after),
             )
             | inr p ↦
                 let early : has_exited s.pid.0 saw.early ≡ true = ap (has_exited s.pid.0) p.1 ∙ exit_among s.pid.0 before p.0 e of is in

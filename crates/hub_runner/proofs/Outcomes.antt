@@ -13,20 +13,20 @@ use Rattle.hub_base.specs.declared.fault.Fault.TheVariants as fault
 use Rattle.hub_live.specs.Name.{Name}
 use Rattle.hub_live.specs.SeatView.{SeatView}
 use Rattle.hub_live.specs.Calls.{Later, Refused, Shows, AreSeats}
-use Rattle.hub_live.proofs.Prefixes.{prefix_self, prefix_trans}
+use Rattle.hub_base.proofs.Lists.{prefix_self, prefix_trans}
 use Rattle.hub_base.proofs.Loops.{all_snoc}
 use Rattle.hub_scenario.specs.declared.script.ScriptStep.{ScriptStep}
 use Rattle.hub_scenario.specs.Scenario.{ScenarioData}
 use Rattle.hub_scenario.specs.ChoiceWords.{choice_word, words_of_process}
 use Rattle.hub_runner.specs.declared.fault.RunFault.{RunFault}
 use Rattle.hub_runner.specs.declared.fault.RunFault.TheVariants as run
-use Rattle.hub_runner.specs.Asked.{Asked}
+use Rattle.hub_laws.specs.Asked.{Asked}
 use Rattle.hub_runner.specs.Scripts.{MakesThenFollows, FollowsScript, made_by}
 use Rattle.hub_runner.specs.CutShort.{steps_asked, ComesTo}
 use Rattle.hub_runner.specs.Ports.{makes_of}
 use Rattle.hub_runner.specs.Running.{AreMakes, MakesStopped, IsReady, HasFollowed, HasCome, MeetsLimit, IsOutcome, HaveEnded, ShowPorts}
 use Rattle.hub_runner.specs.Working.{asked_of, Onward, Followed, next_of, WasStopped}
-use Rattle.hub_runner.proofs.Askings.{answered}
+use Rattle.hub_laws.proofs.Askings.{answered}
 use Rattle.hub_runner.proofs.Workers.{at_place, refused_asks}
 use Rattle.hub_runner.proofs.Stops.{can_follow, can_make, makes_on, followed_comes, StopsAt, stop_no_exit, own_no_exit, stop_comes, stop_shows}
 use Rattle.hub_runner.proofs.Runs.{makes_then, one_script, has_followed, from_ok}

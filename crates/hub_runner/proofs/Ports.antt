@@ -16,13 +16,13 @@ use Rattle.hub_laws.specs.Replies.{own}
 use Rattle.hub_laws.proofs.Limits.{limits-law}
 use Rattle.hub_live.specs.SeatView.{SeatView}
 use Rattle.hub_live.specs.Calls.{AskedNothing, Later, StandsIn}
-use Rattle.hub_live.proofs.Prefixes.{prefix_trans}
+use Rattle.hub_base.proofs.Lists.{prefix_trans}
 use Rattle.hub_scenario.specs.Scenario.{ScenarioData}
-use Rattle.hub_runner.specs.Asked.{Asked, asked}
+use Rattle.hub_laws.specs.Asked.{Asked, asked}
 use Rattle.hub_runner.specs.Ports.{makes_of, BeginsWithPorts}
 use Rattle.hub_runner.specs.Running.{AreMakes}
 use Rattle.hub_runner.specs.Working.{asker_of}
-use Rattle.hub_runner.proofs.Askings.{asked-steps}
+use Rattle.hub_laws.proofs.Askings.{asked-steps}
 use Rattle.hub_runner.proofs.Workers.{nothing_asked}
 
 -- ---- entries of process 0

@@ -25,7 +25,7 @@ use Rattle.hub_laws.specs.Journals.{IsLegal}
 use Rattle.hub_laws.specs.OnePort.{IsMade, is_port, port_touched}
 use Rattle.hub_laws.specs.Received.{value_got, got_in, got_at, received_from, received_on}
 use Rattle.hub_laws.proofs.Lasting.{ports-law}
-use Rattle.hub_core.proofs.Hubs.{journal_short}
+use Rattle.hub_laws.proofs.Limits.{legal-short}
 use Rattle.hub_laws.proofs.Longer.{events-entry}
 use Rattle.hub_laws.proofs.OnePort.{one_port-law}
 use Rattle.hub_laws.proofs.Received.{received_values-law}
@@ -135,7 +135,7 @@ made_by head es e machine told answers q h =
 -- ---- bounds
 pub entries_fit : (head : Head) (es : List Entry) → IsLegal head es → head.procs ≤ MOST_PROCS → steps_of es ≤ MOST_STEPS →
     length es ≤ 2 * MOST_STEPS + MOST_PROCS
-entries_fit head es legal procs few = omega (arith, journal_short head es legal)
+entries_fit head es legal procs few = omega (arith, legal-short head es legal)
 
 pub room-within : (i : ℕ) (r : Replayed) (machine : MachineLists) → Within i r → i ≤ 2 * MOST_STEPS + MOST_PROCS → HasRoom (record r { machine = machine })
 room-within i r machine within few = record {

@@ -22,12 +22,12 @@ use Rattle.hub_scenario.specs.declared.scenario.Scenario.{Scenario}
 use Rattle.hub_scenario.specs.Scripts.{AreOf}
 use Rattle.hub_scenario.specs.Steps.{has_step}
 use Rattle.hub_scenario.specs.ChoiceWords.{words_of_process}
-use Rattle.hub_runner.specs.Asked.{Asked, asked}
+use Rattle.hub_laws.specs.Asked.{Asked, asked}
 use Rattle.hub_runner.specs.Scripts.{Follows, MakesThenFollows, FollowsScript, made_by, AllFollow}
 use Rattle.hub_runner.specs.Running.{AreMakes, IsReady, HasFollowed}
 use Rattle.hub_runner.specs.Working.{asked_of, Onward, Followed}
 use Rattle.hub_runner.proofs.Workers.{made_asks}
-use Rattle.hub_runner.proofs.Askings.{answered, asked-same}
+use Rattle.hub_laws.proofs.Askings.{answered, asked-same}
 
 -- ---- the scripts
 

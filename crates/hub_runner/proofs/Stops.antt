@@ -22,12 +22,13 @@ use Rattle.hub_scenario.specs.declared.script.ScriptStep.{ScriptStep}
 use Rattle.hub_scenario.specs.declared.script.ScriptStep.TheVariants.{Send, Recv, Select, Close, Range}
 use Rattle.hub_scenario.specs.Scenario.{ScenarioData}
 use Rattle.hub_scenario.specs.ChoiceWords.{words_of_process}
-use Rattle.hub_runner.specs.Asked.{Asked}
+use Rattle.hub_laws.specs.Asked.{Asked}
 use Rattle.hub_runner.specs.Scripts.{asks, taken_after, left, Follows, MakesThenFollows, FollowsScript, made_by}
 use Rattle.hub_runner.specs.CutShort.{steps_asked, ComesTo}
 use Rattle.hub_runner.specs.Running.{AreMakes, SawFull}
 use Rattle.hub_runner.specs.Working.{asked_of, has_exited, Onward, next_of}
-use Rattle.hub_runner.proofs.Askings.{answered, asked-steps}
+use Rattle.hub_base.proofs.StepCounts.{steps-append}
+use Rattle.hub_laws.proofs.Askings.{answered, asked-steps}
 use Rattle.hub_runner.proofs.Gone.{gone-exited}
 
 -- ---- exits
@@ -189,12 +190,8 @@ exit_refused s t fault.Gone pid shows =
     ap (λ (p : Pid). has_exited p.0 t.seen) pid ∙ gone-exited t.hub.terms.head s.pid.0 t.seen shows.1
 exit_refused s t other pid shows = absurd shows
 
-pub steps_of-append : (xs ys : List Entry) → steps_of (xs ++ ys) ≡ steps_of xs + steps_of ys
-steps_of-append [] ys = omega arith
-steps_of-append (x ∷ xs) ys = omega (arith, steps_of-append xs ys)
-
 pub steps_grow : (xs ys : List Entry) → IsPrefix xs ys → steps_of xs ≤ steps_of ys
-steps_grow xs ys begins = omega (arith, steps_of-append xs begins.0, ap steps_of begins.1)
+steps_grow xs ys begins = omega (arith, steps-append xs begins.0, ap steps_of begins.1)
 
 -- memory was refused, or a step was and the journal is full
 pub stop_shows : (sc : ScenarioData) (q : ℕ) (script : List ScriptStep) (s t : SeatView) (next : Step) (f : Fault) → StopsAt sc q script s next f

@@ -15,16 +15,16 @@ use Rattle.hub_base.specs.Lines.{call}
 use Rattle.hub_laws.specs.Replies.{own, reply}
 use Rattle.hub_live.specs.SeatView.{SeatView, IsFree}
 use Rattle.hub_live.specs.Calls.{AskedNothing, Later, Made, Refused, Shows, entry_of}
-use Rattle.hub_live.proofs.Prefixes.{prefix_self, prefix_trans}
+use Rattle.hub_base.proofs.Lists.{prefix_self, prefix_trans}
 use Rattle.hub_scenario.specs.declared.script.ScriptStep.{ScriptStep}
 use Rattle.hub_scenario.specs.declared.script.ScriptStep.TheVariants.{Send, Recv, Select, Close, Range}
 use Rattle.hub_scenario.specs.ChoiceWords.{choice_word}
 use Rattle.hub_runner.specs.Reports.{is_stalled}
-use Rattle.hub_runner.specs.Asked.{Asked, asked}
+use Rattle.hub_laws.specs.Asked.{Asked, asked}
 use Rattle.hub_runner.specs.Scripts.{asks, gets, is_range, taken_after, left, Follows}
 use Rattle.hub_runner.specs.CutShort.{steps_asked}
 use Rattle.hub_runner.specs.Working.{asked_of, has_exited, Onward, Leads, Followed, goes_on_with, next_of, Stopped, WasStopped}
-use Rattle.hub_runner.proofs.Askings.{answered, asked-gains, asked-same}
+use Rattle.hub_laws.proofs.Askings.{answered, asked-gains, asked-same}
 use Rattle.hub_runner.proofs.Stops.{exit_is_no_step, own_exit, exit_refused}
 
 -- ---- one entry

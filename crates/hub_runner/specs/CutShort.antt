@@ -11,7 +11,7 @@ use Rattle.hub_base.specs.Text.{steps_of}
 use Rattle.hub_laws.specs.Journals.{IsLegal}
 use Rattle.hub_scenario.specs.declared.script.ScriptStep.{ScriptStep}
 use Rattle.hub_scenario.specs.Scenario.{ScenarioData, run_head}
-use Rattle.hub_runner.specs.Asked.{Asked, asked}
+use Rattle.hub_laws.specs.Asked.{Asked, asked}
 use Rattle.hub_runner.specs.Ports.{makes_of, BeginsWithPorts}
 use Rattle.hub_runner.specs.Scripts.{FollowsScript}
 

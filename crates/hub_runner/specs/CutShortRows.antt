@@ -11,7 +11,7 @@ use Rattle.hub_laws.specs.Journals.{IsLegal}
 use Rattle.hub_scenario.specs.declared.script.ScriptStep.{ScriptStep}
 use Rattle.hub_scenario.specs.declared.script.ScriptStep.TheVariants.{Send, Range, Close}
 use Rattle.hub_scenario.specs.Scenario.{ScenarioData}
-use Rattle.hub_runner.specs.Asked.{asked}
+use Rattle.hub_laws.specs.Asked.{asked}
 use Rattle.hub_runner.specs.CutShort.{ComesTo, LeavesLast}
 use Rattle.hub_runner.specs.Ports.{BeginsWithPorts}
 

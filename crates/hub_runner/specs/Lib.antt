@@ -4,7 +4,6 @@ pub mod ReportText
 pub mod TextRows
 pub mod Replays
 pub mod Prelude
-pub mod Asked
 pub mod Scripts
 pub mod Ports
 pub mod ScriptRows

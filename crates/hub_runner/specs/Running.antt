@@ -16,7 +16,7 @@ use Rattle.hub_scenario.specs.declared.script.ScriptStep.{ScriptStep}
 use Rattle.hub_scenario.specs.Scenario.{ScenarioData, run_head}
 use Rattle.hub_runner.specs.declared.fault.RunFault.{RunFault}
 use Rattle.hub_runner.specs.declared.fault.RunFault.TheVariants as run
-use Rattle.hub_runner.specs.Asked.{Asked}
+use Rattle.hub_laws.specs.Asked.{Asked}
 use Rattle.hub_runner.specs.CutShort.{ComesTo}
 use Rattle.hub_runner.specs.Ports.{BeginsWithPorts}
 use Rattle.hub_runner.specs.Scripts.{FollowsScript, made_by}

@@ -5,7 +5,7 @@ use Rattle.hub_base.specs.Entry.{Entry}
 use Rattle.hub_base.specs.Notation.{procs, port, s, r, make, send, recv, close, exit, select, case, got, done}
 use Rattle.hub_base.specs.Value.{value_of}
 use Rattle.hub_scenario.specs.declared.script.ScriptStep.TheVariants.{Send, Recv, Select, Close, Range}
-use Rattle.hub_runner.specs.Asked.{asked}
+use Rattle.hub_laws.specs.Asked.{asked}
 use Rattle.hub_runner.specs.Scripts.{Follows, MakesThenFollows}
 
 -- word j is 10 and j

@@ -17,7 +17,7 @@ use Rattle.hub_scenario.specs.declared.script.ScriptStep.{ScriptStep}
 use Rattle.hub_scenario.specs.declared.script.ScriptStep.TheVariants.{Send, Recv, Select, Close, Range}
 use Rattle.hub_scenario.specs.Scenario.{ScenarioData, run_head}
 use Rattle.hub_scenario.specs.ChoiceWords.{words_of_process}
-use Rattle.hub_runner.specs.Asked.{Asked, asked}
+use Rattle.hub_laws.specs.Asked.{Asked, asked}
 
 -- ---- replies
 

@@ -12,7 +12,7 @@ use Rattle.hub_live.specs.Name.{Name}
 use Rattle.hub_live.specs.SeatView.{SeatView}
 use Rattle.hub_live.specs.Calls.{Shows, entry_of}
 use Rattle.hub_scenario.specs.declared.script.ScriptStep.{ScriptStep}
-use Rattle.hub_runner.specs.Asked.{Asked, asked}
+use Rattle.hub_laws.specs.Asked.{Asked, asked}
 use Rattle.hub_runner.specs.Scripts.{Follows, asks}
 use Rattle.hub_runner.specs.CutShort.{steps_asked}
 

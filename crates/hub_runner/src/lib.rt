@@ -8,7 +8,6 @@ mod counting;
 mod fault;
 mod following;
 mod gate;
-mod laws;
 mod replayed;
 mod report;
 mod runner;
@@ -18,7 +17,6 @@ mod writer;
 
 pub use fault::RunFault;
 pub use gate::{Gate, NoGate};
-pub use laws::own_entries_are_asked;
 pub use report::{PortReport, Report};
 pub use runner::{run_scenario, run_scenario_short};
 pub use short_report::ShortReport;

@@ -22,7 +22,8 @@ use Rattle.hub_core.specs.declared.terms.Terms.{Terms}
 use Rattle.hub_core.specs.HubView.{HubView, IsFullFor, Refuses, opened_hub, with_entry}
 use Rattle.hub_live.specs.Locked.{LockedView, Serves, ServesStep, none_waits, without_answer}
 use Rattle.hub_cut.specs.Chains.{MakesText}
-use Rattle.hub_cut.proofs.Places.{around, steps_there}
+use Rattle.hub_base.proofs.Lists.{around}
+use Rattle.hub_base.proofs.StepCounts.{steps-there}
 use Rattle.hub_served.specs.declared.follower.AfterDivergence.{AfterDivergence}
 use Rattle.hub_served.specs.declared.follower.AfterDivergence.TheVariants.{GoesOn}
 use Rattle.hub_served.specs.declared.follower.Stand.TheVariants.{Early, Other}
@@ -51,7 +52,7 @@ not_full : (l : FollowView) (e : Entry) → FollowKeeps l → IsDue l e → IsFu
 not_full l e keeps next full =
     let begins : IsBeginning l = keeps.begins next.following in
     let one : one_step e ≡ 1 = ap (λ (b : Bool). cond b 0 1) full.0 in
-    omega (arith, one, full.1, keeps.room, ap steps_of begins, steps_there (made l) l.given e next.at)
+    omega (arith, one, full.1, keeps.room, ap steps_of begins, steps-there (made l) l.given e next.at)
 
 -- so memory alone refuses it
 pub due_refused : (l : FollowView) (e : Entry) (f : Fault) → FollowKeeps l → IsDue l e → Refuses l.locked.hub e f → f ≡ fault.NoMemory

@@ -1,6 +1,6 @@
 -- What contracts see of a hub that never ends, which chapters explain it, and what a step of it does.
 use Rattle.std.specs.Prelude.{◌≡◌, ◌<◌, ℕ, false, List, [], ◌∷◌, ◌++◌, length}
-use Rattle.std.specs.Prelude.{Option, None, IfSome, Result, IfOk, IfErr, OnErr, true, replicate, slice_set, if◌then◌else◌}
+use Rattle.std.specs.Prelude.{Option, None, Result, IfOk, IfErr, OnErr, true, replicate, slice_set, if◌then◌else◌}
 use Rattle.hub_base.specs.Entry.{Entry}
 use Rattle.hub_base.specs.declared.event.Event.{Event}
 use Rattle.hub_base.specs.declared.fault.Fault.{Fault}
@@ -10,7 +10,7 @@ use Rattle.hub_laws.specs.Replies.{is_parked}
 use Rattle.hub_chapters.specs.Chapters.{Chapters, history}
 use Rattle.hub_chapters.specs.Chapters.Chapters.{Cut}
 use Rattle.hub_cut.specs.Recorder.{GoesOn, RecorderView, Records, RefusesStep, begins, head_of_all, with_next}
-use Rattle.hub_live.specs.Locked.{IsReplyTo, answer_after, answer_for, pids_of}
+use Rattle.hub_live.specs.Locked.{AreReplies, IsReplyTo, answer_after, answer_for, pids_of}
 
 -- a recorder, and the answers that wait
 pub record EndlessView : Type 0 where
@@ -28,7 +28,7 @@ endless_view recorder answers last ended = record { recorder = recorder; answers
 -- the hub stands at the end of these chapters, and each answer that waits is its process's reply in their whole history
 pub record Explains (chapters : Chapters) (l : EndlessView) : Type 0 where
   pub records : Records chapters l.recorder
-  pub replies : (q : ℕ) → IfSome (answer_for l.answers q) (IsReplyTo (head_of_all l.recorder) q (history chapters))
+  pub replies : AreReplies (head_of_all l.recorder) (history chapters) l.answers
 
 -- what every hub that never ends keeps: some chapters explain it
 pub record EndlessKeeps (l : EndlessView) : Type 0 where

@@ -9,7 +9,7 @@ use Rattle.hub_base.specs.declared.head.Edition.{Edition}
 use Rattle.hub_base.specs.declared.head.Head.{Head}
 use Rattle.hub_base.specs.Head.{has_case, has_value}
 use Rattle.hub_base.specs.Notation.{select}
-use Rattle.hub_text.proofs.Numerals.{and-true}
+use Rattle.std.proofs.lemmas.Bool.{and_parts}
 use Rattle.hub_session.specs.declared.session.Session.{Session}
 use Rattle.hub_session.specs.declared.structs.CaseC.{CaseC}
 use Rattle.hub_session.specs.declared.structs.ToldC.{ToldC}
@@ -58,7 +58,7 @@ refused_so was pid cases default word told not_so is =
 both_asked : (edition : Edition) (cases : List CaseC) → are_cases_of edition cases ≡ true
     → (are_cases cases ≡ true) × (list_all (has_case edition) (map case_in cases) ≡ true)
 both_asked edition cases so =
-    and-true (are_cases cases) (list_all (has_case edition) (map case_in cases)) (sym (cases_split edition cases) ∙ so)
+    and_parts (are_cases cases) (list_all (has_case edition) (map case_in cases)) (sym (cases_split edition cases) ∙ so)
 
 -- a step that the hub's edition has
 served_so : (was now : Session) (pid : ℕ) (cases : List CaseC) (default word : ℕ) (told : ToldC)

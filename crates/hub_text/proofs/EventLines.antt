@@ -22,10 +22,10 @@ use Rattle.hub_base.specs.Head.{has_content}
 use Rattle.hub_base.specs.Content.{Content}
 use Rattle.hub_base.specs.Value.{content, saying, value_field}
 use Rattle.hub_base.specs.Content.Content.{Num, Bytes}
-use Rattle.hub_text.proofs.ValueFields.{value-again, value-lacks}
-use Rattle.hub_text.proofs.Bodies.{lacks-high, rows-line}
-use Rattle.hub_text.proofs.Heads.{rows-one}
-use Rattle.hub_text.proofs.Numerals.{all_lack, lacks, decimal-lacks, lacks-joined, number-again, pieces-joined}
+use Rattle.hub_base.proofs.ValueFields.{value-again, value-lacks}
+use Rattle.hub_base.proofs.Bodies.{lacks-high, rows-line}
+use Rattle.hub_base.proofs.Heads.{rows-one}
+use Rattle.hub_base.proofs.Numerals.{all_lack, lacks, decimal-lacks, lacks-joined, number-again, pieces-joined}
 
 -- ---- the fields of a line
 

@@ -13,6 +13,7 @@ use Rattle.std.specs.Option.{option_map}
 use Rattle.hub_base.specs.Value.{saying}
 use Rattle.hub_base.specs.Lines.Draft.{Sends, Receives}
 use Rattle.hub_base.specs.Lines.{◌>>=◌, Draft, draft_of, send_draft, recv_draft, drafts_of, case_of, cases_of, case_read}
+use Rattle.hub_base.proofs.Again.{ends-step}
 use Rattle.hub_base.specs.Lines.{choose, read_select, ends_default, last_default, numeral, number, must, pieces, value, value_read}
 
 -- the cases so far, unless a number was wrong
@@ -169,11 +170,6 @@ pub joined-err : (ed : Edition) (fine : Bool) (cases : List Case) (d : Draft) (k
     → joined (so_far fine cases) (one (case_of ed d)) ≡ so_far false cases
 joined-err ed true cases d k e = rw e (ap (λ k. Err k) (case-bad ed d k e))
 joined-err ed false cases d k e = refl
-
--- a field that is no last `default` is the first of the case fields
-pub ends-step : (f : List ℕ) (fs : List (List ℕ)) → last_default f fs ≡ false → ends_default (f ∷ fs) ≡ (f ∷ (ends_default fs).0, (ends_default fs).1)
-ends-step f [] h = rw h refl
-ends-step f (g ∷ fs) h = refl
 
 -- a last default ends the cases
 pub ends-last : (f : List ℕ) (fs : List (List ℕ)) → last_default f fs ≡ true → ends_default (f ∷ fs) ≡ ([], true)

@@ -1,23 +1,18 @@
 -- What a reader does with the next line, where it is whole and within the limit of bytes.
 use Rattle.std.proofs.Common.{◌≡◌, ℕ, ◌+◌, ◌<◌, ◌≤◌, Bool, true, false, cond, List, ◌∷◌, length, ap, ◌∙◌, sym, subst, arith}
-use Rattle.std.proofs.Common.{None, Some, Result, Ok, not, ◌&&◌}
+use Rattle.std.proofs.Common.{Result, Ok, not, ◌&&◌}
 use Rattle.std.proofs.lemmas.Grind.{common_steps}
 use Rattle.std.specs.Borrow.{Bor}
-use Rattle.std.specs.Prelude.{nat_lt, nat_le}
+use Rattle.std.specs.Prelude.{nat_le}
 use Rattle.hub_base.specs.Entry.{Entry}
 use Rattle.hub_base.specs.declared.limits.TheConstants.{MOST_STEPS, MOST_BYTES}
 use Rattle.hub_base.specs.declared.read_fault.Kind.{Kind}
 use Rattle.hub_base.specs.declared.read_fault.Kind.TheVariants.{TooLong}
+use Rattle.hub_base.proofs.Running.{row-fine}
 use Rattle.hub_text.specs.declared.reader.Reader.TheInside.{Inside}
 use Rattle.hub_base.specs.Lines.{read_fields, pieces}
-use Rattle.hub_base.specs.Reading.{Row, Reading, Faulty, rows, row_fault, faulty_or, entries_from, entry_says, with_entry, is_exit, over, counted}
+use Rattle.hub_base.specs.Reading.{Row, Reading, Faulty, rows, faulty_or, entries_from, entry_says, with_entry, is_exit, over, counted}
 use Rattle.hub_text.specs.ReaderKeeps.{left_of}
-
-within-limit : (n : ℕ) → n ≤ MOST_BYTES → nat_lt MOST_BYTES n ≡ false
-within-limit n h = grind (arith, common_steps)
-
-pub row-fine : (end : ℕ) (b : List ℕ) → end ≤ MOST_BYTES → row_fault end (record { bytes = b; whole = true }) ≡ None
-row-fine end b h = ap (λ t. cond t (Some TooLong) None) (within-limit end h)
 
 -- what the fields of the line say decides
 pub line-says : (r : Inside) (text : List ℕ) (rs : List Row) (said : Result Entry Kind) → rows r.rest.now ≡ record { bytes = text; whole = true } ∷ rs

@@ -2,6 +2,7 @@
 use Rattle.std.proofs.Common.{◌≡◌, ℕ, ◌==◌, Bool, true, false, cond, List, [], ◌∷◌, refl, ◌∙◌, sym, Option, None, Some}
 use Rattle.std.specs.Prelude.{IsTrue, not, is_some}
 use Rattle.std.specs.Borrow.{Bor}
+use Rattle.hub_base.proofs.Numerals.{pieces-some}
 use Rattle.hub_text.specs.Fields.{pieces_left}
 use Rattle.hub_base.specs.Lines.{pieces, joins, join_front}
 
@@ -17,19 +18,6 @@ cond-nil false c ps = front-nil c ps
 pub joins-nil : (mark : ℕ) (bs : List ℕ) → joins [] (pieces mark bs) ≡ pieces mark bs
 joins-nil mark [] = refl
 joins-nil mark (c ∷ cs) = cond-nil (c == mark) c (pieces mark cs)
-
-front-some : (c : ℕ) (ps : List (List ℕ)) → join_front c ps ≡ [] → ⊥
-front-some c [] e = cc
-front-some c (p ∷ ps) e = cc
-
-cond-some : (t : Bool) (c : ℕ) (ps : List (List ℕ)) → cond t ([] ∷ ps) (join_front c ps) ≡ [] → ⊥
-cond-some true c ps e = cc
-cond-some false c ps e = front-some c ps e
-
--- there is at least one piece
-pub pieces-some : (mark : ℕ) (bs : List ℕ) → pieces mark bs ≡ [] → ⊥
-pieces-some mark [] e = cc
-pieces-some mark (c ∷ cs) e = cond-some (c == mark) c (pieces mark cs) e
 
 unnot : (b : Bool) → false ≡ not b → b ≡ true
 unnot true e = refl

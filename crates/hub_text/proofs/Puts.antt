@@ -1,10 +1,19 @@
 -- A text that is put in two parts, and a number by its first digits and the others.
-use Rattle.std.proofs.Common.{◌∙◌, ℕ, ◌+◌, ◌/◌, ◌%◌, ◌^◌, ◌<◌, ◌≤◌, List, [], ◌∷◌, ◌++◌, ap, arith, append_assoc}
+use Rattle.std.proofs.Common.{◌≡◌, ◌∙◌, ℕ, ◌+◌, ◌/◌, ◌%◌, ◌^◌, ◌<◌, ◌≤◌, List, [], ◌∷◌, ◌++◌, ap, refl, arith, append_assoc}
 use Rattle.std.specs.Fmt.{decimal}
 use Rattle.std.proofs.lemmas.Fmt.{decimal_digit}
 use Rattle.itoa.proofs.Decimal.{decimal_pair, decimal_four}
 use Rattle.hub_text.specs.Writing.{Puts, pair, four}
-use Rattle.hub_text.proofs.Decimals.{decimal_eight}
+
+-- a number of more than eight digits is spelled by those before its last eight, and these
+decimal_eight : (n : ℕ) → 100000000 ≤ n → n < 2 ^ 64
+    → decimal n ≡ decimal (n / 100000000) ++ (four (n % 100000000 / 10000) ++ four (n % 100000000 % 10000))
+decimal_eight n lo hi =
+    let a : n / 10000 / 10000 ≡ n / 100000000 = omega arith in
+    let b : n / 10000 % 10000 ≡ n % 100000000 / 10000 = omega arith in
+    let c : n % 10000 ≡ n % 100000000 % 10000 = omega arith in
+    let joined = append_assoc (decimal (n / 10000 / 10000)) (four (n / 10000 % 10000)) (four (n % 10000)) in
+    rw (decimal_four n (omega arith) hi, decimal_four (n / 10000) (omega arith) (omega arith), joined, a, b, c) refl
 
 -- a text of at most so many bytes, and another behind it
 pub puts_then : {old mid new : List ℕ} {at end last m n : ℕ} {s t : List ℕ} → Puts old mid at s m end → Puts mid new end t n last

@@ -33,7 +33,8 @@ use Rattle.std.proofs.Common.{replicate, set, slice_index, slice_set}
 use Rattle.std.proofs.lemmas.Grind.{take-set_at}
 use Rattle.std.proofs.lemmas.List.{drop-replicate, drop-set-lt, length-set}
 use Rattle.hex.specs.Hex.{IsBytes, encode_lower, encode_with, lower_digits}
-use Rattle.hub_text.proofs.HexDigits.{bytes-push, digit-hex, encode-push}
+use Rattle.hub_base.proofs.HexDigits.{digit-hex}
+use Rattle.hub_text.proofs.HexDigits.{bytes-push, encode-push}
 use Rattle.hub_base.proofs.Values.{content-saying, is-value}
 use Rattle.hub_text.specs.Writing.{spaced, spaced_cases}
 use Rattle.hub_base.specs.Lines.{line, step_fields, case_field, call, call_fields, select_fields, default_field, spelled, is_hex}
@@ -41,10 +42,10 @@ use Rattle.hub_text.specs.Quick.{EndsLine, Stands, GoesOn, ValueStands, SendStan
 use Rattle.hub_text.specs.Quick.{SelectStands, NumberStands, ReopenStands, StepStands, Begins, BeginsExit}
 use Rattle.hub_base.specs.Reading.{Reading, Reads, Faulty, behind, is_exit, with_entry, entries_from, rows}
 use Rattle.hub_base.specs.Text.{CaseFits, StepFits, Fits, body, steps_of}
-use Rattle.hub_text.proofs.Bodies.{rows-entry}
-use Rattle.hub_text.proofs.Running.{entries-again}
+use Rattle.hub_base.proofs.Bodies.{rows-entry}
+use Rattle.hub_base.proofs.Running.{entries-again}
 use Rattle.hub_text.proofs.Spelled.{join-spaced, spaced-select}
-use Rattle.hub_text.proofs.Decimals.{digits-of, value-of, spelled as spelled-digits}
+use Rattle.hub_base.proofs.Decimals.{digits-of, value-of, spelled as spelled-digits}
 
 digit-range : (c : ℕ) → is_ascii_digit c ≡ true → IsInRange 48 57 c
 digit-range c h = grind (arith, common_steps)

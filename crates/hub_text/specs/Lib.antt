@@ -1,6 +1,5 @@
 pub mod Fields
 pub mod Writing
-pub mod ReadJournal
 pub mod Filling
 pub mod Place
 pub mod Reader

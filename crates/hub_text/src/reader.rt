@@ -12,7 +12,7 @@ ghost use Rattle.hub_base.specs.EventText.{event_line, EventFits};
 ghost use Rattle.hub_base.specs.Head.{IsHead, AreOf};
 ghost use Rattle.hub_base.specs.Lines.{line};
 ghost use Rattle.hub_base.specs.Reading.{read_text, edition_of, procs_number, procs_from, rows, HasEntry};
-ghost use Rattle.hub_text.specs.ReadJournal.{Gives, IsFaultOf};
+ghost use Rattle.hub_base.specs.ReadJournal.{Gives, IsFaultOf};
 ghost use Rattle.hub_base.specs.Text.{IsText, IsFaulty, IsEither, Fits};
 ghost use Rattle.hub_base.specs.Reading.Reading.{Reads, Faulty};
 ghost use Rattle.hub_text.specs.Reader.{ReadsOn, FillsOn, edition_said, procs_said};

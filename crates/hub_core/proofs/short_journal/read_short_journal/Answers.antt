@@ -1,4 +1,4 @@
-use Rattle.hub_text.proofs.OneReading.{found-text, found-fits, found-fault}
+use Rattle.hub_base.proofs.OneReading.{found-text, found-fits, found-fault}
 use Rattle.hub_core.proofs.short_journal.read_short_journal.Goals as goal
 
 pub returns-clause-found : goal.returns-clause-found

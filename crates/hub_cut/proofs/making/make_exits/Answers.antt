@@ -8,7 +8,8 @@ use Rattle.hub_base.specs.State.{State}
 use Rattle.hub_base.specs.Steps.{has_gone}
 use Rattle.hub_core.specs.HubView.{state_of}
 use Rattle.hub_cut.specs.Cut.{Makes}
-use Rattle.hub_cut.proofs.Parts.{gone_more, procs_same}
+use Rattle.hub_laws.proofs.Lasting.{procs-after}
+use Rattle.hub_cut.proofs.Parts.{gone_more}
 use Rattle.hub_cut.proofs.Renewing.{can_grow, made_more, made_none}
 use Rattle.hub_cut.proofs.making.make_exits.Goals as goal
 
@@ -30,7 +31,7 @@ make_exit-requires c =
     let procs = ap (λ (h : Head). h.procs) c.head-number-end.ensures.value in
     rw c.has_gone.ensures (record {
       can = can_grow c.args.next.now.memory.hub c.loop-number.next.memory.hub (exits_below s) (exit_at s) (gone_more (has_gone s)) n s.head.procs
-          (omega (arith, procs, c.loop-number-test.true, c.loop-number.auto.number-end, procs_same hub.terms.head hub.journal)) c.requires.can
+          (omega (arith, procs, c.loop-number-test.true, c.loop-number.auto.number-end, procs-after hub.terms.head hub.journal)) c.requires.can
           c.loop-number.invariant;
     })
 
@@ -45,5 +46,5 @@ returns c =
     let hub = c.args.hub.now.memory.hub in
     let procs = ap (λ (h : Head). h.procs) c.head-number-end.ensures.value in
     let same : c.loop-number.number ≡ (state_of hub).head.procs =
-    omega (arith, procs, c.loop-number-test.false, c.loop-number.auto.number-end, procs_same hub.terms.head hub.journal) in
+    omega (arith, procs, c.loop-number-test.false, c.loop-number.auto.number-end, procs-after hub.terms.head hub.journal) in
     subst (λ n. Makes c.args.next.now.memory.hub (exits_below (state_of hub) n) c.loop-number.next.memory.hub) same c.loop-number.invariant

@@ -9,8 +9,10 @@ use Rattle.hub_laws.proofs.Totals.{take_next}
 use Rattle.hub_core.specs.HubView.{HubView, Refuses, terms_of, with_entry}
 use Rattle.hub_cut.specs.Cut.{hub_with}
 use Rattle.hub_cut.specs.Faults.{IsRefused}
-use Rattle.hub_cut.proofs.Places.{all_there, steps_there}
-use Rattle.hub_cut.proofs.Steps.{few_entries, fits_all, is_refused, no_places, refused_so}
+use Rattle.hub_base.proofs.OneReading.{few-entries, text-fits}
+use Rattle.hub_base.proofs.StepCounts.{steps-there}
+use Rattle.hub_cut.proofs.Places.{all_there}
+use Rattle.hub_cut.proofs.Steps.{is_refused, no_places, refused_so}
 use Rattle.hub_cut.proofs.replays.hub_of.Goals as goal
 
 pub step_into-requires : goal.step_into-requires
@@ -22,7 +24,7 @@ step_into-requires c =
     record {
       fits = ap (λ (h : HubView). is_of h.terms.head.edition entry.step) c.loop-place.invariant
           ∙ all_there (λ (e : Entry). is_of given.head.edition e.step) c.loop-place.place given.entries entry
-          (fits_all c.requires.text given.head given.entries c.requires.spelled) there;
+          (text-fits c.requires.text given.head given.entries c.requires.spelled) there;
     }
 
 pub refused_at-requires : goal.refused_at-requires
@@ -33,7 +35,7 @@ refused_at-requires c =
       c.loop-place-test.true,
       c.len-place-end.ensures,
       ap (λ (es : List Entry). length es) c.entries.ensures,
-      few_entries c.requires.text given.head given.entries c.requires.spelled,
+      few-entries c.requires.text given.head given.entries c.requires.spelled,
     )
 
 pub returns-in-Err-clause-err : goal.returns-in-Err-clause-err
@@ -51,7 +53,7 @@ returns-in-Err-clause-err c =
     let refuses : Refuses so_far entry c.in-Err.fault =
     subst (λ (h : HubView). Refuses h entry c.in-Err.fault) c.loop-place.invariant c.in-Err.ensures.rules.refused in
     let few : steps_of (take n given.entries) + one_step entry ≤ MOST_STEPS =
-    omega (arith, steps_there n given.entries entry there, c.requires.spelled.steps_fit) in
+    omega (arith, steps-there n given.entries entry there, c.requires.spelled.steps_fit) in
     subst (IsRefused given) (sym c.refused_at.ensures)
     (is_refused given n entry c.in-Err.fault there legal (refused_so so_far entry c.in-Err.fault refuses refl few))
 

@@ -1,8 +1,12 @@
-use Rattle.std.proofs.Common.{◌≡◌, ℕ, List, [], ◌∷◌, get_or, ◌+◌, ◌*◌, subst, refl}
+use Rattle.std.proofs.Common.{◌≡◌, ◌<◌, ◌/◌, ◌%◌, ℕ, List, [], ◌∷◌, get_or, ◌+◌, ◌*◌, subst, refl}
 use Rattle.hub_text.specs.declared.event_lines.TheConstants.{PAIRS}
 use Rattle.hub_text.specs.Writing.{Puts, pair}
-use Rattle.hub_text.proofs.Decimals.{pairs_at}
+use Rattle.itoa.proofs.Decimal.{PAIRS_at}
 use Rattle.hub_text.proofs.event_lines.put_pair.Goals as goal
+
+-- the table has the two digits of each number below 100
+pairs_at : (n : ℕ) → n < 100 → (get_or PAIRS (n * 2) 0 ≡ 48 + n / 10) × (get_or PAIRS (n * 2 + 1) 0 ≡ 48 + n % 10)
+pairs_at = PAIRS_at
 
 pub returns : goal.returns
 returns c =

@@ -1,6 +1,6 @@
-use Rattle.hub_text.proofs.Heads.{text-take}
-use Rattle.hub_text.proofs.FaultyTexts.{fault-take}
-use Rattle.hub_text.proofs.OneReading.{is-either, one-text, one-fault, apart}
+use Rattle.hub_base.proofs.Heads.{text-take}
+use Rattle.hub_base.proofs.FaultyTexts.{fault-take}
+use Rattle.hub_base.proofs.OneReading.{is-either, one-text, one-fault, apart}
 use Rattle.hub_text.proofs.reader.one_reading.Goals as goal
 
 pub returns-clause-some : goal.returns-clause-some

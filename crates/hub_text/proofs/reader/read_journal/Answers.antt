@@ -1,4 +1,4 @@
-use Rattle.hub_text.proofs.OneReading.{gives-text, gives-fault, found-text, found-fits, found-fault}
+use Rattle.hub_base.proofs.OneReading.{gives-text, gives-fault, found-text, found-fits, found-fault}
 use Rattle.hub_text.proofs.reader.read_journal.Goals as goal
 
 pub returns-clause-found : goal.returns-clause-found

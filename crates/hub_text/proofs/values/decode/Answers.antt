@@ -5,7 +5,7 @@ use Rattle.std.proofs.Math.Seq.{take-append_seam}
 use Rattle.hub_base.specs.declared.limits.TheConstants.{MOST_VALUE_BYTES}
 use Rattle.hub_base.specs.declared.value.Value.{Value}
 use Rattle.hub_base.specs.Value.{bytes_of}
-use Rattle.hub_text.proofs.ValueFields.{decodes, decodes-content}
+use Rattle.hub_base.proofs.ValueFields.{decodes, decodes-content}
 use Rattle.hub_text.proofs.values.decode.Goals as goal
 
 -- few bytes are a value

@@ -1,9 +1,9 @@
-use Rattle.std.proofs.Common.{◌≡◌, ◌∙◌, ℕ, ◌+◌, ◌<◌, List, [], Option, ap, sym, subst, arith, length, take, Bor}
+use Rattle.std.proofs.Common.{◌≡◌, ◌∙◌, ℕ, ◌+◌, List, [], ◌∷◌, ◌++◌, Option, ap, sym, subst, append_assoc, arith, length, take, drop, Bor}
+use Rattle.std.proofs.lemmas.List.{take-append-drop}
 use Rattle.std.specs.Prelude.{get_or}
 use Rattle.std.proofs.lemmas.Option.{slice_get-get_or}
 use Rattle.std.proofs.Math.Seq.{take-length}
 use Rattle.hub_cut.specs.Texts.{AreWhole, IsAt, StandsAt}
-use Rattle.hub_cut.proofs.Wholes.{whole_before}
 use Rattle.chanhub_tool.proofs.Held.{as_many, reads_next}
 use Rattle.chanhub_tool.proofs.commands.chain.check.Goals as goal
 
@@ -33,6 +33,8 @@ returns-in-Err-clause-err g c = λ read texts all whole.
     let none : Bor (List ℕ) = record { ref_ptr = (0, 0); now = [] } in
     let at = reads_next gives i files texts (get_or files i none) c.in_ok-text.text.items c.deref.result.now all
     (slice_get-get_or files i none c.loop-file-test.true) c.in_ok-text.ensures c.deref.ensures.value in
-    let some : 0 < i + 1 = omega arith in
-    c.in-Err.ensures.only (c.broken_at.ensures read) (take i texts) (c.loop-file.invariant texts all)
-    (subst (λ (ts : List (List ℕ)). AreWhole ts) at.next (whole_before texts (i + 1) whole some (omega (arith, at.within))))
+    let parts : texts ≡ take i texts ++ c.deref.result.now ∷ drop (i + 1) texts =
+    sym (take-append-drop (i + 1) texts) ∙ ap (λ (ts : List (List ℕ)). ts ++ drop (i + 1) texts) at.next
+    ∙ append_assoc (take i texts) (c.deref.result.now ∷ []) (drop (i + 1) texts) in
+    c.in-Err.ensures.only (c.broken_at.ensures read) (take i texts) (drop (i + 1) texts) (c.loop-file.invariant texts all)
+    (subst (λ (ts : List (List ℕ)). AreWhole ts) parts whole)

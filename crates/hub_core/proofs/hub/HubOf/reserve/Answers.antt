@@ -5,7 +5,7 @@ use Rattle.hub_base.specs.Runs.{kept}
 use Rattle.hub_base.specs.Text.{steps_of}
 use Rattle.hub_core.specs.Follows.{Follows}
 use Rattle.hub_core.specs.HubKeeps.{InForm}
-use Rattle.hub_core.proofs.Reached.{steps-length}
+use Rattle.hub_base.proofs.StepCounts.{steps-length}
 use Rattle.hub_core.proofs.hub.HubOf.reserve.Goals as goal
 
 pub invariant_of-self-then-k-self : goal.invariant_of-self-then-k-self

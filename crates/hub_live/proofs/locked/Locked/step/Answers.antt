@@ -1,22 +1,9 @@
-use Rattle.std.proofs.Common.{◌≡◌, ◌∙◌, ap, subst}
-use Rattle.hub_base.specs.Entry.{Entry}
-use Rattle.hub_live.specs.Answers.{AnswersView, begun, hears_all}
+use Rattle.std.proofs.Common.{◌∙◌, ap, subst}
+use Rattle.hub_live.specs.Answers.{AnswersView, Heard, hears_all}
 use Rattle.hub_live.specs.Locked.{LockedView, Serves}
-use Rattle.hub_live.proofs.Hearing.{kept, serves_heard}
-use Rattle.hub_live.proofs.Locks.{answer_replies, lawful_served, told_some}
+use Rattle.hub_live.proofs.Hearing.{lawful_then, replies_then, served}
 use Rattle.hub_live.proofs.locked.Locked.step.Goals as goal
 use Rattle.hub_live.proofs.locked.Locked.step.Goals.{In_ok-step_heard}
-
-abbrev asked : In_ok-step_heard → Entry
-asked c = c.args.entry.now
-
-abbrev before : In_ok-step_heard → LockedView
-before c = record {
-  hub = c.self.inside.hub.memory.hub;
-  answers = c.self.inside.answers.waiting;
-  last = c.self.inside.answers.last;
-  ended = c.self.inside.answers.ended;
-}
 
 abbrev after : In_ok-step_heard → LockedView
 after c = record {
@@ -26,28 +13,23 @@ after c = record {
   ended = c.step_heard.new.events.ended;
 }
 
-heard : (c : In_ok-step_heard) → c.step_heard.new.events ≡ hears_all (begun c.self.inside.answers) c.in_ok-step_heard.ensures.ok.told
+heard : (c : In_ok-step_heard) → Heard c.self.inside.answers c.self.inside.hub.memory.hub.terms.head c.self.inside.hub.memory.hub.journal c.args.entry.now
+    c.step_heard.new.events
 heard c =
-    c.in_ok-step_heard.ensures.ok.heard
-    ∙ ap (λ (k : AnswersView). hears_all k c.in_ok-step_heard.ensures.ok.told) c.begin.ensures
-
-served : (c : In_ok-step_heard) → Serves (before c) (asked c) (after c) (after c).last
-served c =
     let made = c.in_ok-step_heard.ensures.ok in
-    serves_heard (before c) (asked c) c.step_heard.new.self.memory.hub made.told c.step_heard.new.events c.self.invariant.places made.steps
-    (kept c.self.inside.answers c.step_heard.new.events made.told (heard c)
-    (told_some c.self.inside.hub.memory.hub c.step_heard.new.self.memory.hub (asked c) made.told made.steps))
+    c.begin.ensures.heard _ _ c.args.entry.now c.step_heard.new.events made.steps.admitted (made.heard ∙ ap (hears_all _) made.steps.events)
 
 pub invariant_of-self-2 : goal.invariant_of-self-2
-invariant_of-self-2 c = lawful_served (before c) (after c) (asked c) (after c).last c.self.invariant (served c)
+invariant_of-self-2 c = lawful_then _ c.self.inside.answers c.args.entry.now _ _ _ c.self.invariant c.in_ok-step_heard.ensures.ok.steps (heard c)
 
 pub returns : goal.returns
 returns c =
-    let serves = served c in
+    let steps = c.in_ok-step_heard.ensures.ok.steps in
     record {
       rules = record {
-        ok = subst (λ (l : LockedView). Serves l (asked c) (after c) (after c).last) c.self.view_is serves;
-        reply = answer_replies c.self.inside.hub.memory.hub c.step_heard.new.self.memory.hub (asked c) (after c).last serves.ended serves.step;
+        ok = subst (λ (l : LockedView). Serves l c.args.entry.now (after c) (after c).last) c.self.view_is
+            (served _ c.self.inside.answers c.args.entry.now _ _ _ c.self.invariant steps (heard c));
+        reply = replies_then _ c.self.inside.answers c.args.entry.now _ _ _ c.self.invariant steps (heard c);
         refused = tt;
         unchanged = tt;
       };

@@ -4,7 +4,7 @@ use Rattle.hub_base.specs.Head.{is_of}
 use Rattle.hub_base.specs.Reading.{rows}
 use Rattle.hub_text.specs.Reader.{ReaderView}
 use Rattle.hub_text.proofs.QuickLines.{end-some, exit-again}
-use Rattle.hub_text.proofs.Running.{has-entry}
+use Rattle.hub_base.proofs.Running.{has-entry}
 use Rattle.hub_text.proofs.reader.Reader.read_exit.Goals as goal
 
 pub returns-clause-reads : goal.returns-clause-reads

@@ -3,7 +3,7 @@ use Rattle.std.proofs.lemmas.Grind.{common_steps}
 use Rattle.hub_base.specs.Reading.{rows}
 use Rattle.hub_text.specs.Reader.{ReaderView}
 use Rattle.hub_text.proofs.QuickLines.{line-again, end-some}
-use Rattle.hub_text.proofs.Running.{has-entry}
+use Rattle.hub_base.proofs.Running.{has-entry}
 use Rattle.hub_text.proofs.reader.Reader.read_quickly.Goals as goal
 
 pub returns-in-Some-clause-reads : goal.returns-in-Some-clause-reads

@@ -10,8 +10,8 @@ use Rattle.hub_text.specs.Reader.{ReaderView}
 use Rattle.hub_text.specs.ReaderKeeps.{left_of}
 use Rattle.hub_base.specs.Reading.{rows, entries_from, counted, HasEntry}
 use Rattle.hub_text.proofs.NextLine.{line-says, too-many, step-counts, exit-counts, entry-next, Next}
-use Rattle.hub_text.proofs.Running.{has-entry}
-use Rattle.hub_text.proofs.Takes.{fields-take}
+use Rattle.hub_base.proofs.Running.{has-entry}
+use Rattle.hub_base.proofs.Takes.{fields-take}
 use Rattle.hub_text.proofs.reader.Reader.read_slowly.Goals as goal
 use Rattle.hub_text.proofs.reader.Reader.read_slowly.Goals.{then-not-is_exit+else-self-eq-MOST_STEPS, else-not-is_exit}
 

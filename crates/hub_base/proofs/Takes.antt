@@ -22,10 +22,9 @@ use Rattle.hub_base.specs.Lines.{read_choice, read_select}
 use Rattle.hub_base.specs.Lines.{read_step, read_fields, choose, step_fields, call_fields, select_fields, default_field, case_field, case_of}
 use Rattle.hub_base.specs.Lines.{cases_of, draft_of, drafts_of, send_draft, recv_draft, spelled, ends_default, same_text, by, call, pieces}
 use Rattle.hub_base.specs.Text.{CaseFits, StepFits, Spells}
-use Rattle.hub_text.proofs.Bound.{bind_ok, numeral-ok}
-use Rattle.hub_text.proofs.ValueFields.{read-takes}
-use Rattle.hub_text.proofs.Pieces.{pieces-some}
-use Rattle.hub_text.proofs.Numerals.{same-true, joined-pieces}
+use Rattle.hub_base.proofs.Bound.{bind_ok, numeral-ok}
+use Rattle.hub_base.proofs.ValueFields.{read-takes}
+use Rattle.hub_base.proofs.Numerals.{same-true, joined-pieces}
 
 -- a word with one number that was read was so spelled
 one-takes : (ed : Edition) (word : List ℕ) (most : ℕ) (step : ℕ → Step) (pid : List ℕ) (fs : List (List ℕ)) (e : Entry) → most < 2 ^ 64
@@ -201,7 +200,7 @@ letter c cs d false false a b is other f g h = cc
 pub draft-takes : (f : List ℕ) (d : Draft) → draft_of f ≡ Ok d → f ≡ draft_field d
 draft-takes [] d h = cc
 draft-takes (c ∷ cs) d h =
-    let j = joined-pieces 58 cs (pieces-some 58) in
+    let j = joined-pieces 58 cs in
     letter c cs d (c == 115) (c == 114) (send_draft (pieces 58 cs)) (recv_draft (pieces 58 cs)) refl refl (two-parts cs (pieces 58 cs) d j)
     (one-part cs (pieces 58 cs) d j) h
 

@@ -1,6 +1,7 @@
 -- Numbers, words, and bytes without a mark.
 use Rattle.std.proofs.Common.{◌≡◌, ◌≢◌, ℕ, ◌≤◌, ◌<◌, ◌^◌, Bool, true, false, cond, List, [], ◌∷◌, ◌++◌}
 use Rattle.std.proofs.Common.{length, refl, ap, ◌∙◌, sym, Some, Ok, arith, get_or, not, ◌&&◌, ◌==◌}
+use Rattle.std.proofs.lemmas.Bool.{and_parts}
 use Rattle.std.proofs.lemmas.Grind.{common_steps}
 use Rattle.std.specs.Prelude.{decimal}
 use Rattle.std.specs.List.{list_all, join_with_byte}
@@ -8,7 +9,7 @@ use Rattle.std.specs.Char.{is_ascii_digit}
 use Rattle.std.specs.Str.Parse.{digits_value}
 use Rattle.hub_base.specs.declared.read_fault.Kind.TheVariants.{BadNumber}
 use Rattle.hub_base.specs.Lines.{number, one_number, is_numeral, numeral, must, same_text, pieces, join_front}
-use Rattle.hub_text.proofs.Decimals.{digits-of, value-of, some-of, lead-of}
+use Rattle.hub_base.proofs.Decimals.{digits-of, value-of, some-of, lead-of}
 
 numeral-shape : (bs : List ℕ) → 0 < length bs → list_all is_ascii_digit bs ≡ true → (1 < length bs → get_or bs 0 0 ≢ 48) → is_numeral bs ≡ true
 numeral-shape [] some ds lead = absurd (omega arith)
@@ -31,18 +32,13 @@ number-again most n wide fits =
 pub numeral-again : (most n : ℕ) → most < 2 ^ 64 → n ≤ most → numeral most (decimal n) ≡ Ok n
 numeral-again most n wide fits = ap (must BadNumber) (number-again most n wide fits)
 
--- both of two
-pub and-true : (a b : Bool) → (a && b) ≡ true → (a ≡ true) × (b ≡ true)
-and-true true b h = (refl, h)
-and-true false b h = cc
-
 -- the same bytes
 pub same-true : (xs ys : List ℕ) → same_text xs ys ≡ true → xs ≡ ys
 same-true [] [] h = refl
 same-true [] (y ∷ ys) h = cc
 same-true (x ∷ xs) [] h = cc
 same-true (x ∷ xs) (y ∷ ys) h =
-    let both = and-true (x == y) (same_text xs ys) h in
+    let both = and_parts (x == y) (same_text xs ys) h in
     let head : x ≡ y = grind (arith, common_steps, both.0) in
     ap (λ z. z ∷ xs) head ∙ ap (λ zs. y ∷ zs) (same-true xs ys both.1)
 
@@ -55,7 +51,7 @@ lacks mark (c ∷ cs) = not (c == mark) && lacks mark cs
 pub lacks-append : (mark : ℕ) (xs ys : List ℕ) → lacks mark xs ≡ true → lacks mark ys ≡ true → lacks mark (xs ++ ys) ≡ true
 lacks-append mark [] ys h k = k
 lacks-append mark (x ∷ xs) ys h k =
-    let both = and-true (not (x == mark)) (lacks mark xs) h in
+    let both = and_parts (not (x == mark)) (lacks mark xs) h in
     rw (both.0, lacks-append mark xs ys both.1 k) refl
 
 -- a mark that is none of these bytes
@@ -63,7 +59,7 @@ pub all-lack : (P : ℕ → Bool) (mark : ℕ) (xs : List ℕ) → ((c : ℕ) �
     → list_all P xs ≡ true → lacks mark xs ≡ true
 all-lack P mark [] h d = refl
 all-lack P mark (x ∷ xs) h d =
-    let both = and-true (P x) (list_all P xs) d in
+    let both = and_parts (P x) (list_all P xs) d in
     rw (h x both.0, all-lack P mark xs h both.1) refl
 
 no-mark : (mark : ℕ) → mark < 35 → (c : ℕ) → is_ascii_digit c ≡ true → not (c == mark) ≡ true
@@ -80,7 +76,7 @@ decimal-lacks mark n low small = all-lack is_ascii_digit mark (decimal n) (no-ma
 pub decimal-lacks-colon : (n : ℕ) → n < 2 ^ 64 → lacks 58 (decimal n) ≡ true
 decimal-lacks-colon n small = all-lack is_ascii_digit 58 (decimal n) no-colon (digits-of (decimal n) n small refl)
 
-not-true : (b : Bool) → not b ≡ true → b ≡ false
+pub not-true : (b : Bool) → not b ≡ true → b ≡ false
 not-true true h = cc
 not-true false h = refl
 
@@ -88,7 +84,7 @@ not-true false h = refl
 pub pieces-last : (mark : ℕ) (bs : List ℕ) → lacks mark bs ≡ true → pieces mark bs ≡ bs ∷ []
 pieces-last mark [] h = refl
 pieces-last mark (c ∷ cs) h =
-    let both = and-true (not (c == mark)) (lacks mark cs) h in
+    let both = and_parts (not (c == mark)) (lacks mark cs) h in
     rw (not-true (c == mark) both.0) (ap (join_front c) (pieces-last mark cs both.1))
 
 same-byte : (m : ℕ) → (m == m) ≡ true
@@ -98,7 +94,7 @@ same-byte m = grind (arith, common_steps)
 pub pieces-more : (mark : ℕ) (bs rest : List ℕ) → lacks mark bs ≡ true → pieces mark (bs ++ mark ∷ rest) ≡ bs ∷ pieces mark rest
 pieces-more mark [] rest h = rw (same-byte mark) refl
 pieces-more mark (c ∷ cs) rest h =
-    let both = and-true (not (c == mark)) (lacks mark cs) h in
+    let both = and_parts (not (c == mark)) (lacks mark cs) h in
     rw (not-true (c == mark) both.0) (ap (join_front c) (pieces-more mark cs rest both.1))
 
 -- the mark stands in none of these
@@ -108,10 +104,23 @@ all_lack mark (f ∷ fs) = lacks mark f && all_lack mark fs
 
 -- what was joined by marks is cut into the same
 pub pieces-joined : (mark : ℕ) (f : List ℕ) (fs : List (List ℕ)) → all_lack mark (f ∷ fs) ≡ true → pieces mark (join_with_byte mark (f ∷ fs)) ≡ f ∷ fs
-pieces-joined mark f [] h = pieces-last mark f (and-true (lacks mark f) true h).0
+pieces-joined mark f [] h = pieces-last mark f (and_parts (lacks mark f) true h).0
 pieces-joined mark f (g ∷ gs) h =
-    let both = and-true (lacks mark f) (all_lack mark (g ∷ gs)) h in
+    let both = and_parts (lacks mark f) (all_lack mark (g ∷ gs)) h in
     pieces-more mark f (join_with_byte mark (g ∷ gs)) both.0 ∙ ap (λ ps. f ∷ ps) (pieces-joined mark g gs both.1)
+
+front-some : (c : ℕ) (ps : List (List ℕ)) → join_front c ps ≡ [] → ⊥
+front-some c [] e = cc
+front-some c (p ∷ ps) e = cc
+
+cond-some : (t : Bool) (c : ℕ) (ps : List (List ℕ)) → cond t ([] ∷ ps) (join_front c ps) ≡ [] → ⊥
+cond-some true c ps e = cc
+cond-some false c ps e = front-some c ps e
+
+-- there is at least one piece
+pub pieces-some : (mark : ℕ) (bs : List ℕ) → pieces mark bs ≡ [] → ⊥
+pieces-some mark [] e = cc
+pieces-some mark (c ∷ cs) e = cond-some (c == mark) c (pieces mark cs) e
 
 joined-front : (mark c : ℕ) (p : List ℕ) (ps : List (List ℕ)) → join_with_byte mark ((c ∷ p) ∷ ps) ≡ c ∷ join_with_byte mark (p ∷ ps)
 joined-front mark c p [] = refl
@@ -125,13 +134,13 @@ joined-step mark c cs true (p ∷ ps) e some h = let is : c ≡ mark = grind (ar
 joined-step mark c cs false (p ∷ ps) e some h = joined-front mark c p ps ∙ ap (λ r. c ∷ r) h
 
 -- what was cut is joined to the same
-pub joined-pieces : (mark : ℕ) (bs : List ℕ) (some : (cs : List ℕ) → pieces mark cs ≢ []) → join_with_byte mark (pieces mark bs) ≡ bs
-joined-pieces mark [] some = refl
-joined-pieces mark (c ∷ cs) some = joined-step mark c cs (c == mark) (pieces mark cs) refl (some cs) (joined-pieces mark cs some)
+pub joined-pieces : (mark : ℕ) (bs : List ℕ) → join_with_byte mark (pieces mark bs) ≡ bs
+joined-pieces mark [] = refl
+joined-pieces mark (c ∷ cs) = joined-step mark c cs (c == mark) (pieces mark cs) refl (pieces-some mark cs) (joined-pieces mark cs)
 
 -- another mark stands in no such text
 pub lacks-joined : (m : ℕ) (f : List ℕ) (fs : List (List ℕ)) → (32 == m) ≡ false → all_lack m (f ∷ fs) ≡ true → lacks m (join_with_byte 32 (f ∷ fs)) ≡ true
-lacks-joined m f [] other h = (and-true (lacks m f) true h).0
+lacks-joined m f [] other h = (and_parts (lacks m f) true h).0
 lacks-joined m f (g ∷ gs) other h =
-    let both = and-true (lacks m f) (all_lack m (g ∷ gs)) h in
+    let both = and_parts (lacks m f) (all_lack m (g ∷ gs)) h in
     lacks-append m f (32 ∷ join_with_byte 32 (g ∷ gs)) both.0 (rw other (lacks-joined m g gs other both.1))

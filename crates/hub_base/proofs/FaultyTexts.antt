@@ -11,8 +11,8 @@ use Rattle.hub_base.specs.Reading.{Row, rows, Faulty, header, head_lines, procs_
 use Rattle.hub_base.specs.Reading.{faulty_or, end_of, procs_number, procs_say, procs_from, reading, read_text}
 use Rattle.hub_base.specs.Text.{header_row, procs_row, header_fault, procs_fault, fault_of_edition, fault_of_procs, fault_of_first}
 use Rattle.hub_base.specs.Text.{first_fault, FaultyFirst, FaultySecond, FaultyEntry, IsFaulty, EntryFails}
-use Rattle.hub_text.proofs.Running.{entries-fail, entries-fail-again, row-none}
-use Rattle.hub_text.proofs.Heads.{edition-take, first-place, header-again, heads-again, procs-take, second-place, whole-row}
+use Rattle.hub_base.proofs.Running.{entries-fail, entries-fail-again, row-none}
+use Rattle.hub_base.proofs.Heads.{edition-take, first-place, header-again, heads-again, procs-take, second-place, whole-row}
 
 header-faulty : (o : Option Kind) (p : Option Edition) (end : ℕ) (rs : List Row) (k : ℕ) (kind : Kind)
     → faulty_or 1 (edition_says p end rs) o ≡ Faulty k kind → ((k ≡ 1) × (first_fault o (fault_of_edition p) ≡ Some kind))

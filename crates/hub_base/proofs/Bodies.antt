@@ -1,6 +1,7 @@
 -- A line of an entry holds no space but between its fields, and no newline but at its end.
 use Rattle.std.proofs.Common.{◌≡◌, ℕ, zero, suc, ◌≤◌, ◌<◌, ◌^◌, Bool, true, false, List, [], ◌∷◌, ◌++◌}
 use Rattle.std.proofs.Common.{map, refl, ap, ◌∙◌, Ok, arith, codes, not, ◌==◌, ◌&&◌, append_assoc}
+use Rattle.std.proofs.lemmas.Bool.{and_parts}
 use Rattle.std.proofs.lemmas.Grind.{common_steps}
 use Rattle.std.specs.Prelude.{decimal, nat_le}
 use Rattle.std.specs.List.{AllByRecursion, list_all, flat_map}
@@ -14,9 +15,9 @@ use Rattle.hub_base.specs.Lines.{step_fields, call_fields, select_fields, defaul
 use Rattle.hub_base.specs.Reading.{rows, front}
 use Rattle.hub_base.specs.Value.{value_field}
 use Rattle.hub_base.specs.Text.{Fits, CaseFits, CallFits, StepFits, fields_of, body, row_of}
-use Rattle.hub_text.proofs.Numerals.{lacks, all_lack, lacks-append, decimal-lacks, pieces-joined, lacks-joined}
-use Rattle.hub_text.proofs.ValueFields.{value-lacks}
-use Rattle.hub_text.proofs.Again.{fields-again}
+use Rattle.hub_base.proofs.Numerals.{lacks, all_lack, not-true, lacks-append, decimal-lacks, pieces-joined, lacks-joined}
+use Rattle.hub_base.proofs.ValueFields.{value-lacks}
+use Rattle.hub_base.proofs.Again.{fields-again}
 
 both : (a b : Bool) → a ≡ true → b ≡ true → (a && b) ≡ true
 both true true h k = refl
@@ -26,15 +27,11 @@ both false b h k = cc
 high : (m c : ℕ) → m < 35 → nat_le 48 c ≡ true → not (c == m) ≡ true
 high m c low h = grind (arith, common_steps)
 
-split : (a b : Bool) → (a && b) ≡ true → (a ≡ true) × (b ≡ true)
-split true b h = (refl, h)
-split false b h = cc
-
 -- a mark below those of values stands in no bytes from the digits on
 pub lacks-high : (m : ℕ) (xs : List ℕ) → m < 35 → list_all (nat_le 48) xs ≡ true → lacks m xs ≡ true
 lacks-high m [] low h = refl
 lacks-high m (x ∷ xs) low h =
-    let s = split (nat_le 48 x) (list_all (nat_le 48) xs) h in
+    let s = and_parts (nat_le 48 x) (list_all (nat_le 48) xs) h in
     both (not (x == m)) (lacks m xs) (high m x low s.0) (lacks-high m xs low s.1)
 
 small : (n most : ℕ) → n ≤ most → most < 2 ^ 64 → n < 2 ^ 64
@@ -107,15 +104,11 @@ pub body-again : (ed : Edition) (e : Entry) → Fits ed e → read_fields ed (pi
 body-again ed e fits = ap (read_fields ed) (pieces-joined 32 (decimal e.pid.0) (step_fields e.step) (fields-lack ed 32 e (omega arith) fits))
     ∙ fields-again ed e fits
 
-not-true : (b : Bool) → not b ≡ true → b ≡ false
-not-true true h = cc
-not-true false h = refl
-
 -- a line ends at its newline
 pub rows-line : (b rest : List ℕ) → lacks 10 b ≡ true → rows (b ++ 10 ∷ rest) ≡ record { bytes = b; whole = true } ∷ rows rest
 rows-line [] rest h = refl
 rows-line (c ∷ cs) rest h =
-    let s = split (not (c == 10)) (lacks 10 cs) h in
+    let s = and_parts (not (c == 10)) (lacks 10 cs) h in
     rw (not-true (c == 10) s.0) (ap (front c) (rows-line cs rest s.1))
 
 -- the line of an entry is one line

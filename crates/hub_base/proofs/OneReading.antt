@@ -1,22 +1,23 @@
 -- What the calls that read a journal promise, and the laws of texts.
-use Rattle.std.proofs.Common.{◌≡◌, ℕ, List, [], ◌∷◌, ◌++◌, inl, inr, refl, ap, ◌∙◌, sym, subst, Result, Ok, Err}
+use Rattle.std.proofs.Common.{◌≡◌, ℕ, ◌≤◌, List, [], ◌∷◌, ◌++◌, length, zero-le, length-append, arith, inl, inr, refl, ap, ◌∙◌, sym, subst, Result, Ok, Err}
 use Rattle.std.specs.Prelude.{IfOk, IfErr}
-use Rattle.std.specs.List.{AllByRecursion}
+use Rattle.std.specs.List.{AllByRecursion, flat_map}
 use Rattle.hub_base.specs.Entry.{Entry}
 use Rattle.hub_base.specs.declared.head.Edition.{Edition}
 use Rattle.hub_base.specs.declared.head.Head.{Head}
 use Rattle.hub_base.specs.declared.read_fault.Kind.{Kind}
 use Rattle.hub_base.specs.Head.{AreOf}
 use Rattle.hub_base.specs.Lines.{pieces, line, read_fields}
-use Rattle.hub_base.specs.Reading.{rows, Reading, Reads, Faulty, read_text}
+use Rattle.hub_base.specs.declared.limits.TheConstants.{MOST_BYTES}
+use Rattle.hub_base.specs.Reading.{rows, Reading, Reads, Faulty, read_text, head_lines}
 use Rattle.hub_base.specs.declared.read_fault.ReadFault.{ReadFault}
 use Rattle.hub_base.specs.declared.read_fault.ReadFault.TheVariants as fault
 use Rattle.hub_base.specs.Journal.{JournalView}
-use Rattle.hub_text.specs.ReadJournal.{Gives, IsFaultOf}
-use Rattle.hub_base.specs.Text.{Fits, IsText, row_of, IsFaulty, IsEither}
-use Rattle.hub_text.proofs.Bodies.{rows-entry, body-again}
-use Rattle.hub_text.proofs.Heads.{rows-one, text-again, text-take}
-use Rattle.hub_text.proofs.FaultyTexts.{fault-again, fault-take}
+use Rattle.hub_base.specs.ReadJournal.{Gives, IsFaultOf}
+use Rattle.hub_base.specs.Text.{Fits, IsText, body, row_of, IsFaulty, IsEither}
+use Rattle.hub_base.proofs.Bodies.{rows-entry, body-again}
+use Rattle.hub_base.proofs.Heads.{rows-one, text-again, text-take}
+use Rattle.hub_base.proofs.FaultyTexts.{fault-again, fault-take}
 
 either : (bytes : List ℕ) (r : Reading) → read_text bytes ≡ r → IsEither bytes
 either bytes (Reads head es) h = inl (head, es, text-take bytes head es h)
@@ -78,9 +79,13 @@ are-of : (edition : Edition) (es : List Entry) → AllByRecursion (Fits edition)
 are-of edition [] fits = refl
 are-of edition (e ∷ es) fits = rw (fits.0.of_edition) (are-of edition es fits.1)
 
+-- its entries are those of its edition
+pub text-fits : (bytes : List ℕ) (h : Head) (es : List Entry) → IsText bytes h es → AreOf h.edition es
+text-fits bytes h es is = are-of h.edition es is.fits
+
 -- and its entries are those of its edition
 pub found-fits : (bytes : List ℕ) (r : Result JournalView ReadFault) → Gives r (read_text bytes) → IfOk r (λ j. AreOf j.head.edition j.entries)
-found-fits bytes (Ok j) g = are-of j.head.edition j.entries (text-take bytes j.head j.entries g).fits
+found-fits bytes (Ok j) g = text-fits bytes j.head j.entries (text-take bytes j.head j.entries g)
 found-fits bytes (Err f) g = tt
 
 fault-of : (bytes : List ℕ) (f : ReadFault) → Gives (Err f) (read_text bytes) → IsFaultOf bytes f
@@ -91,3 +96,11 @@ fault-of bytes fault.NoMemory g = tt
 pub found-fault : (bytes : List ℕ) (r : Result JournalView ReadFault) → Gives r (read_text bytes) → IfErr r (λ f. IsFaultOf bytes f)
 found-fault bytes (Ok j) g = tt
 found-fault bytes (Err f) g = fault-of bytes f g
+
+-- each entry takes a byte at least, so a text has few
+a-byte-each : (es : List Entry) → length es ≤ length (flat_map line es)
+a-byte-each [] = zero-le
+a-byte-each (e ∷ es) = omega (arith, length-append (line e) (flat_map line es), length-append (body e) (10 ∷ []), a-byte-each es)
+
+pub few-entries : (bytes : List ℕ) (h : Head) (es : List Entry) → IsText bytes h es → length es ≤ MOST_BYTES
+few-entries bytes h es is = omega (arith, is.bytes_fit, ap length is.spelled, length-append (head_lines h) (flat_map line es), a-byte-each es)

@@ -1,6 +1,7 @@
 -- What an entry spells is read as that entry.
 use Rattle.std.proofs.Common.{◌≡◌, ℕ, zero, suc, ◌≤◌, ◌<◌, ◌^◌, Bool, true, false, cond, List, []}
 use Rattle.std.proofs.Common.{◌∷◌, ◌++◌, length, map, refl, ap, ◌∙◌, Ok, Err, arith, codes}
+use Rattle.std.proofs.lemmas.Bool.{and_parts}
 use Rattle.std.proofs.lemmas.Grind.{common_steps}
 use Rattle.std.proofs.lemmas.List.{length-map}
 use Rattle.std.specs.Prelude.{decimal, nat_lt}
@@ -20,10 +21,14 @@ use Rattle.hub_base.specs.Lines.{numeral, ◌>>=◌, Draft, read_one, read_selec
 use Rattle.hub_base.specs.Lines.{select_fields, default_field, case_field, case_of, cases_of, draft_of, drafts_of}
 use Rattle.hub_base.specs.Lines.{send_draft, recv_draft, spelled, ends_default, last_default, same_text, by, call}
 use Rattle.hub_base.specs.Text.{Fits, CaseFits, CallFits, StepFits, fields_of}
-use Rattle.hub_text.proofs.Takes.{send-field}
-use Rattle.hub_text.proofs.Gathered.{ends-step}
-use Rattle.hub_text.proofs.ValueFields.{read-again, value-lacks-colon}
-use Rattle.hub_text.proofs.Numerals.{and-true, numeral-again, pieces-more, pieces-last, decimal-lacks-colon}
+use Rattle.hub_base.proofs.Takes.{send-field}
+use Rattle.hub_base.proofs.ValueFields.{read-again, value-lacks-colon}
+use Rattle.hub_base.proofs.Numerals.{numeral-again, pieces-more, pieces-last, decimal-lacks-colon}
+
+-- a field that is no last `default` is the first of the case fields
+pub ends-step : (f : List ℕ) (fs : List (List ℕ)) → last_default f fs ≡ false → ends_default (f ∷ fs) ≡ (f ∷ (ends_default fs).0, (ends_default fs).1)
+ends-step f [] h = rw h refl
+ends-step f (g ∷ fs) h = refl
 
 -- the shape of a case's field
 abbrev pub draft_for : Case → Draft
@@ -58,7 +63,7 @@ pub cases-again : (ed : Edition) (cs : List Case) → AllByRecursion CaseFits cs
     → cases_of ed (map draft_for cs) ≡ Ok cs
 cases-again ed [] fits has = refl
 cases-again ed (c ∷ cs) fits has =
-    let each = and-true (has_case ed c) (list_all (has_case ed) cs) has in
+    let each = and_parts (has_case ed c) (list_all (has_case ed) cs) has in
     rw (case-again ed c fits.0 each.0, cases-again ed cs fits.1 each.1) refl
 
 no-default : (c : Case) → same_text (case_field c) (codes "default") ≡ false
@@ -114,7 +119,7 @@ call-again ed pid (Send p v ∷ []) true w small fits has = select-again ed pid 
 call-again ed pid (Send p v ∷ []) false zero small fits has =
     ap (λ r. r >>= λ pid. case_of ed (Sends (decimal p.0) (value_field v)) >>= λ c. Ok (by pid (call (c ∷ []) false 0)))
     (numeral-again GREATEST_PID pid (omega arith) small)
-    ∙ ap (λ r. r >>= λ c. Ok (by pid (call (c ∷ []) false 0))) (case-again ed (Send p v) fits.each.0 (and-true (has_case ed (Send p v)) true has).0)
+    ∙ ap (λ r. r >>= λ c. Ok (by pid (call (c ∷ []) false 0))) (case-again ed (Send p v) fits.each.0 (and_parts (has_case ed (Send p v)) true has).0)
 call-again ed pid (Send p v ∷ []) false (suc w) small fits has = select-again ed pid (Send p v ∷ []) false (suc w) small fits has refl refl
 call-again ed pid (Recv p ∷ []) true w small fits has = select-again ed pid (Recv p ∷ []) true w small fits has refl refl
 call-again ed pid (Recv p ∷ []) false zero small fits has =

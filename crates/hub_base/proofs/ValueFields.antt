@@ -19,11 +19,11 @@ use Rattle.hub_base.specs.Lines.{is_hex, decoded, bytes_value, value, value_read
 use Rattle.hub_base.specs.Content.{Content, IsContent}
 use Rattle.hub_base.specs.Value.{content, saying, bytes_of, IsValue, field_of, value_field}
 use Rattle.hub_base.specs.Content.Content.{Num, Bytes}
-use Rattle.hub_text.proofs.Bound.{number-ok}
-use Rattle.hub_text.proofs.Decimals.{digits-of, some-of}
+use Rattle.hub_base.proofs.Bound.{number-ok}
+use Rattle.hub_base.proofs.Decimals.{digits-of, some-of}
 use Rattle.hub_base.proofs.Values.{content-saying, is-value}
-use Rattle.hub_text.proofs.HexDigits.{encoded-hex, hex-spells}
-use Rattle.hub_text.proofs.Numerals.{all-lack, decimal-lacks, decimal-lacks-colon, lacks, number-again}
+use Rattle.hub_base.proofs.HexDigits.{encoded-hex, hex-spells}
+use Rattle.hub_base.proofs.Numerals.{all-lack, decimal-lacks, decimal-lacks-colon, lacks, number-again}
 
 -- a field that does not begin with the mark is read as a number
 unmarked : (ed : Edition) (c : ℕ) (cs : List ℕ) → (c == 35) ≡ false → value ed (c ∷ cs) ≡ option_map Num (number GREATEST_VALUE (c ∷ cs))

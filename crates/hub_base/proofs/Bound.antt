@@ -5,7 +5,7 @@ use Rattle.std.specs.Prelude.{decimal}
 use Rattle.std.specs.Str.Parse.{digits_value}
 use Rattle.hub_base.specs.declared.read_fault.Kind.{Kind}
 use Rattle.hub_base.specs.Lines.{number, one_number, is_numeral, numeral, ◌>>=◌}
-use Rattle.hub_text.proofs.Decimals.{spelled}
+use Rattle.hub_base.proofs.Decimals.{spelled}
 
 -- a reading of two parts that answers Ok did so at both
 pub bind_ok : {A B : Type 0} (r : Result A Kind) (f : A → Result B Kind) (y : B) → (r >>= f) ≡ Ok y → (x : A) × (r ≡ Ok x) × (f x ≡ Ok y)

@@ -16,11 +16,16 @@ use Rattle.hub_base.specs.Reading.{Row, Reading, Reads, Faulty, entries_from, ro
 use Rattle.hub_base.specs.Reading.{end_of, over, counted, HasEntry, with_entry, entry_says, is_exit}
 use Rattle.hub_base.specs.Reading.{behind}
 use Rattle.hub_base.specs.Text.{Fits, fields_of, body, row_of, one_step, steps_of, EntryFails, entry_fault, first_fault, fault_of_entry}
-use Rattle.hub_text.proofs.Bodies.{body-again}
-use Rattle.hub_text.proofs.Takes.{fields-take}
-use Rattle.hub_text.proofs.Pieces.{pieces-some}
-use Rattle.hub_text.proofs.Numerals.{joined-pieces}
-use Rattle.hub_text.proofs.NextLine.{row-fine}
+use Rattle.hub_base.proofs.Bodies.{body-again}
+use Rattle.hub_base.proofs.Takes.{fields-take}
+use Rattle.hub_base.proofs.Numerals.{joined-pieces}
+
+within-limit : (n : ℕ) → n ≤ MOST_BYTES → nat_lt MOST_BYTES n ≡ false
+within-limit n h = grind (arith, common_steps)
+
+-- nothing is wrong with a whole line within the limit of bytes, before it is read
+pub row-fine : (end : ℕ) (b : List ℕ) → end ≤ MOST_BYTES → row_fault end (record { bytes = b; whole = true }) ≡ None
+row-fine end b h = ap (λ t. cond t (Some TooLong) None) (within-limit end h)
 
 behind-nil : (x : Reading) → x ≡ behind [] x
 behind-nil (Reads head es) = refl
@@ -131,7 +136,7 @@ few-steps true steps lim h = omega arith
 few-steps false steps lim h = grind (arith, common_steps)
 
 bytes-are : (bs : List ℕ) (e : Entry) → pieces 32 bs ≡ fields_of e → bs ≡ body e
-bytes-are bs e fields = sym (joined-pieces 32 bs (pieces-some 32)) ∙ ap (join_with_byte 32) fields
+bytes-are bs e fields = sym (joined-pieces 32 bs) ∙ ap (join_with_byte 32) fields
 
 -- a line whose fields spell an entry is that entry's line
 pub row-is : (r : Row) (e : Entry) → r.whole ≡ true → pieces 32 r.bytes ≡ fields_of e → r ≡ row_of e

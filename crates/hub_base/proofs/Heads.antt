@@ -16,11 +16,10 @@ use Rattle.hub_base.specs.Reading.{Row, rows, front, Reads, text, header, head_l
 use Rattle.hub_base.specs.Reading.{faulty_or, end_of, procs_field, above_zero, procs_number, procs_say, procs_from, reading, read_text}
 use Rattle.hub_base.specs.Reading.{edition_of, edition_says}
 use Rattle.hub_base.specs.Text.{Fits, IsText, row_of, steps_of, header_row, procs_row}
-use Rattle.hub_text.proofs.Bodies.{rows-line, rows-entries}
-use Rattle.hub_text.proofs.Bound.{number-ok}
-use Rattle.hub_text.proofs.Numerals.{number-again, pieces-last, decimal-lacks, lacks, same-true, joined-pieces, lacks-append}
-use Rattle.hub_text.proofs.Pieces.{pieces-some}
-use Rattle.hub_text.proofs.Running.{entries-again, entries-take, said-reads, row-none}
+use Rattle.hub_base.proofs.Bodies.{rows-line, rows-entries}
+use Rattle.hub_base.proofs.Bound.{number-ok}
+use Rattle.hub_base.proofs.Numerals.{number-again, pieces-last, decimal-lacks, lacks, same-true, joined-pieces, lacks-append}
+use Rattle.hub_base.proofs.Running.{entries-again, entries-take, said-reads, row-none}
 
 small : (n : ℕ) → n ≤ MOST_PROCS → n < 2 ^ 64
 small n h = omega arith
@@ -66,7 +65,7 @@ procs-take bytes n h =
     let f = field-some (pieces 32 bytes) n a.0 in
     let x = number-ok MOST_PROCS f.1 n (omega arith) f.4 in
     record {
-      spelled = sym (joined-pieces 32 bytes (pieces-some 32)) ∙ ap (join_with_byte 32) f.2
+      spelled = sym (joined-pieces 32 bytes) ∙ ap (join_with_byte 32) f.2
           ∙ ap (λ w. w ++ 32 ∷ f.1) (same-true f.0 (codes "procs") f.3) ∙ ap (λ p. codes "procs" ++ 32 ∷ p) x.0;
       some = a.1;
       few = x.1;
@@ -133,16 +132,20 @@ heads-again h rs is lim =
 procs-lacks : (n : ℕ) → n ≤ MOST_PROCS → lacks 10 (procs_line n) ≡ true
 procs-lacks n few = lacks-append 10 (codes "procs ") (decimal n) refl (decimal-lacks 10 n (omega arith) (small n few))
 
+-- the head lines are two rows
+pub head-rows : (h : Head) → IsHead h → (more : List ℕ) → rows (head_lines h ++ more) ≡ header_row h.edition ∷ procs_row h.procs ∷ rows more
+head-rows h is more =
+    ap rows (append_assoc (header h.edition) (codes "\n" ++ (procs_line h.procs ++ codes "\n")) more)
+    ∙ header-row h.edition ((procs_line h.procs ++ codes "\n") ++ more)
+    ∙ ap (λ rs. header_row h.edition ∷ rs)
+    (ap rows (append_assoc (procs_line h.procs) (codes "\n") more) ∙ rows-line (procs_line h.procs) more (procs-lacks h.procs is.1))
+
 text-rows : (h : Head) (es : List Entry) → IsHead h → AllByRecursion (Fits h.edition) es
     → rows (text h es) ≡ header_row h.edition ∷ procs_row h.procs ∷ map row_of es
 text-rows h es is fits =
-    let n : ℕ = h.procs in
-    let second : List ℕ = procs_line n ++ codes "\n" in
-    ap rows (append_assoc (header h.edition) (codes "\n" ++ second) (flat_map line es))
-    ∙ header-row h.edition (second ++ flat_map line es)
-    ∙ ap (λ rs. header_row h.edition ∷ rs) (ap rows (append_assoc (procs_line n) (codes "\n") (flat_map line es))
-    ∙ rows-line (procs_line n) (flat_map line es) (procs-lacks n is.1)
-    ∙ ap (λ rs. procs_row n ∷ rs) (ap rows (sym (append-nil (flat_map line es))) ∙ rows-entries h.edition es [] fits ∙ append-nil (map row_of es)))
+    head-rows h is (flat_map line es)
+    ∙ ap (λ rs. header_row h.edition ∷ procs_row h.procs ∷ rs)
+    (ap rows (sym (append-nil (flat_map line es))) ∙ rows-entries h.edition es [] fits ∙ append-nil (map row_of es))
 
 text-length : (h : Head) (es : List Entry) → length (text h es) ≡ length (head_lines h) + length (flat_map line es)
 text-length h es = length-append (head_lines h) (flat_map line es)

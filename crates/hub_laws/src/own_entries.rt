@@ -1,10 +1,10 @@
-//! A law of the definitions alone. This function has no effect.
+//! Own entries: what a process asked, and what it was told to each.
 
 ghost use Rattle.std.specs.Prelude.{◌≡◌, ◌++◌, ◌∷◌, [], ℕ, List, map};
 ghost use Rattle.hub_base.specs.Entry.{Entry};
 ghost use Rattle.hub_base.specs.declared.head.Head.{Head};
 ghost use Rattle.hub_laws.specs.Replies.{own, reply};
-ghost use Rattle.hub_runner.specs.Asked.{asked};
+ghost use Rattle.hub_laws.specs.Asked.{asked};
 
 /// What a process asked in a journal are its own entries there, in order; and the reply to the last of
 /// them is the last that the process was told.

@@ -183,9 +183,9 @@ class Tests(Count):
         self.test('explain.sh makes its page', is_well and read(names[2]).endswith(b'</html>\n'))
         write(self.path('long'), b'chanhub journal 1\nprocs 2\n0 make 0\n1 recv 1\n' + b'0 make 5000\n' * 400 + b'0 send 1 9\n' + b'0 make 5000\n' * 200)
         status, told, errors = self.script('explain.sh', self.path('long'))
-        names = [os.path.basename(path) for path in told.splitlines()]
-        windows = ['picture-1-31.svg', 'picture-373-432.svg']
-        self.test('explain.sh draws windows of a long journal', (status, errors, names) == (0, '', ['story.txt', 'overview.svg', *windows, 'page.html']), names)
+        names, [note, *more] = [os.path.basename(path) for path in told.splitlines()], errors.splitlines() or ['']
+        is_well = (status, names, more) == (0, ['story.txt', 'page.html'], []) and note.startswith('no picture of more than 300 steps: ')
+        self.test('explain.sh draws no picture of a long journal, and says so', is_well, (names, errors))
         status, told, errors = self.script('explain.sh', journal, '1', '2')
         self.test('explain.sh explains some steps of a journal', status == 0 and errors == '' and b'      3  P0 send 1 9' not in read(told.splitlines()[0]))
         for word in ('-h', '--help'):
@@ -323,14 +323,15 @@ class Tests(Count):
 
     def refusals(self):
         """No script meets a file by a traceback."""
-        for name in ('page.py', 'overview.py', 'windows.py'):
-            for path, why in ((self.path('missing'), 'No such file'), (self.folder, 'Is a directory'), ('/dev/null', 'line 1 is none of a journal'), (self.path('two'), 'line 1 is none')):
-                status, told, errors = self.script(name, path)
-                self.test('%s on %s' % (name, path), (status, told) == (1, '') and errors.startswith('%s: %s: %s' % (name, path, why)) and errors.count('\n') == 1, errors)
+        none = 'line 1 is none of a journal'
+        for path, why in ((self.path('missing'), 'No such file'), (self.folder, 'Is a directory'), ('/dev/null', none), (self.path('two'), none)):
+            status, told, errors = self.script('page.py', path)
+            is_well = (status, told) == (1, '') and errors.startswith(f'page.py: {path}: {why}') and errors.count('\n') == 1
+            self.test(f'page.py on {path}', is_well, errors)
         for name in ('model.py', 'story_model.py'):
             told = said([path_of(name)], 'chanhub journal 1\nprocs 1\n0 mak 1\n', text=True)
             self.test('%s on no journal' % name, told == (1, '', name + ': standard input: line 3 is none of a journal\n'), told)
-        for name in ('explain.sh', 'page.py', 'overview.py', 'windows.py', 'until_stall.sh', 'seeds.sh', 'lint_scenario.py', 'aarch64.sh', 'soak.sh', 'trials.sh', 'build.py', 'ready.py', 'claims.py', 'model.py', 'story_model.py'):
+        for name in ('explain.sh', 'page.py', 'until_stall.sh', 'seeds.sh', 'lint_scenario.py', 'aarch64.sh', 'soak.sh', 'trials.sh', 'build.py', 'ready.py', 'claims.py', 'model.py', 'story_model.py'):
             for word in ('-h', '--help'):
                 status, told, errors = self.script(name, word)
                 self.test('%s %s' % (name, word), (status, errors) == (0, '') and name in told or name == 'story_model.py' and told, (status, errors))

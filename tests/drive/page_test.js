@@ -1,11 +1,11 @@
 // What page_test.py asks of a page. It is read before the page's own scripts.
 
-// Keeps each call to a canvas, with the colours that it has then.
+// Keeps each call to a canvas.
 window.drawn = [];
 for (const name of ["fillRect", "fillText"]) {
     const draw = CanvasRenderingContext2D.prototype[name];
     CanvasRenderingContext2D.prototype[name] = function (...words) {
-        if (window.drawn) window.drawn.push([this.canvas.id, name, words, this.fillStyle]);
+        if (window.drawn) window.drawn.push([this.canvas.id, name, words]);
         return draw.apply(this, words);
     };
 }

@@ -42,7 +42,6 @@ LEFT = {"button": "left", "clickCount": 1}
 
 SCRIPT = ROOT / "tests" / "drive" / "page_test.js"
 ROWS = table("pages")
-Call = collections.namedtuple("Call", "canvas name words fill")
 
 
 def same(what, told, wanted):
@@ -62,7 +61,7 @@ class Browser:
             os.dup2(ends[1], 4)
 
         self.errors, self.buffer, self.number, self.session, self.loaded = [], b"", 0, None, set()
-        words = "--headless", "--no-sandbox", "--disable-gpu", "--remote-debugging-pipe", f"--user-data-dir={work}/user"
+        words = *picture.HEADLESS, "--remote-debugging-pipe", f"--user-data-dir={work}/user"
         how = {"stdout": subprocess.DEVNULL, "stderr": subprocess.DEVNULL, "preexec_fn": number_pipes, "pass_fds": (3, 4)}
         self.process = subprocess.Popen([picture.browser(), *words], **how)
         os.close(theirs_in)
@@ -431,12 +430,12 @@ class Drawn:
 
     def __init__(self, browser, procs):
         self.shapes = [types.SimpleNamespace(**told) for told in browser.value("shapesDrawn()")]
-        calls = [Call(*call) for call in browser.value("window.drawn")]
+        calls = browser.value("window.drawn")
         self.colours = browser.value("coloursOfPage()")
         self.width = browser.value("document.getElementById('lanes').clientWidth")
-        self.rects = [call.words for call in calls if call.canvas == "far" and call.name == "fillRect"]
-        axis = (call.words for call in calls if call.canvas == "axis")
-        (first, left), *_, (last, right) = sorted((int(text), x) for text, x, *_ in axis if str(text).isdigit())
+        self.rects = [words for canvas, name, words in calls if (canvas, name) == ("far", "fillRect")]
+        ticks = sorted((int(words[0]), words[1]) for canvas, _, words in calls if canvas == "axis" and str(words[0]).isdigit())
+        (first, left), (last, right) = ticks[0], ticks[-1]
         self.dots = (right - left) / (last - first)
         self.zero = left - first * self.dots
         names = {shape.text: shape.y for shape in self.kind("name")}
@@ -481,12 +480,12 @@ def title_of(one, count):
     return f"step {one.place + 1}: {one.line}\n{answer_of(one)}{waits}"
 
 
-def bars_of(drawn, journal, first, end, left):
+def bars_of(drawn, journal, first, end):
     """Each call that waits, from where to where, and whether it ends."""
     for one in journal.entries:
         until = journal.count if one.end is None else one.by
         if journal.tells(one.place) and one.place < until and one.place < end and until >= first:
-            begin = max(left, drawn.x(one.place))
+            begin = max(62.0, drawn.x(one.place))
             yield one, begin, max(begin, min(drawn.width + 2, drawn.x(until))), journal.lane(one)
 
 
@@ -539,7 +538,7 @@ def check_shapes(drawn, journal, first, end):
     lane, colours = drawn.lane, drawn.colours
     is_seen = lambda *places: any(first <= place < end for place in places)
     check_boxes(drawn, journal, first, end)
-    bars = list(bars_of(drawn, journal, first, end, 62.0))
+    bars = list(bars_of(drawn, journal, first, end))
     agree("bar", drawn_as("bar", lambda it: (float(it.x), float(it.right), lane(it.middle))), [bar[1:] for bar in bars])
     agree("knob", drawn_as("knob", lambda it: (float(it.cx), lane(it.cy))), [
         (right, pid) for one, _, right, pid in bars if one.end and one.by < end])
@@ -548,7 +547,7 @@ def check_shapes(drawn, journal, first, end):
         for sent, got in ((sent, sent.partner) for sent in journal.passages())
         if journal.tells(sent.place, sent.by, got.place, got.by) and is_seen(sent.by, got.by)])
     levels = drawn_as("level", lambda it: (float(it.x), float(it.right), drawn.port(it.y + it.height - 8), float(it.height)))
-    agree("level", levels, list(levels_of(drawn, journal, first, end)), 0.6)
+    agree("level", levels, levels_of(drawn, journal, first, end), 0.6)
     agree("stall", drawn_as("field", lambda it: (it.center, lane(it.middle))), [
         (drawn.x(one.by), one.pid) for one in journal.stalled if is_seen(one.by) and journal.tells(one.place)])
     agree("guess", {*drawn_as("guess", lambda it: (it.way[0], lane(it.way[1]), lane(it.way[-1])))}, {
@@ -567,10 +566,10 @@ def check_canvas(drawn, journal, first, end):
         (drawn.x(one.place), journal.lane(one)) for one in journal.entries[first:end] if journal.tells(one.place)])
     thin = min((words[3] for words in lanes), default=0)
     bars = [words for words in lanes if words[3] == thin and words not in boxes]
-    agree("bar", [(float(x), float(x + w), drawn.lane(y + h / 2)) for x, y, w, h in bars], [
-        bar[1:] for bar in bars_of(drawn, journal, first, end, 62.0)])
-    agree("level", [(float(x), float(x + w), drawn.port(y + h - 8), float(h)) for x, y, w, h in levels], [
-        *levels_of(drawn, journal, first, end)], 0.6)
+    wanted = [bar[1:] for bar in bars_of(drawn, journal, first, end)]
+    agree("bar", [(float(x), float(x + w), drawn.lane(y + h / 2)) for x, y, w, h in bars], wanted)
+    wanted = levels_of(drawn, journal, first, end)
+    agree("level", [(float(x), float(x + w), drawn.port(y + h - 8), float(h)) for x, y, w, h in levels], wanted, 0.6)
 
 
 def pixels_of(browser, id):
@@ -793,13 +792,18 @@ def check_journal(browser, count, path, text, name, views, draw, window=None):
     run("panel", check_panel, browser, journal, draw)
 
 
-def check_random(browser, count, work, seed, third=False):
-    text, name, path = RandomJournal(seed, 0, third).text(), f"random journal {seed}", work / "random.html"
-    draw, total = random.Random(seed).randrange, text.count("\n") - 2
-    check_journal(browser, count, path, text, name, [(draw(total - steps + 1), steps) for steps in (total, 40, 12)], draw)
-    first = draw(total)
-    window = first + 1, first + 1 + draw(min(90, total - first))
-    check_journal(browser, count, path, text, name, [(0, total), (max(0, first - 5), 30)], draw, window)
+def check_random(browser, count, work, seed, most=0, third=False):
+    """A random journal, and some of its steps. Of many blocks what a window shows began and ended in other ones."""
+    text = RandomJournal(seed, most, third).text()
+    name, draw, total = f"{'long' if most else 'random'} journal {seed}", random.Random(seed).randrange, text.count("\n") - 2
+    views = [(draw(total - steps + 1), steps) for steps in (total, *((900, 450, 100, 100, 30, 30) if most else (40, 12)))]
+    ends = zip(range(3, most // BLOCK, 4), (60, 58, 57, 30, 2, 0) * 9)  # of blocks
+    views += [(at * BLOCK - back, 60) for at, back in ends]
+    check_journal(browser, count, work / "random.html", text, name, views, draw)
+    first = total // 3 if most else draw(total) + 1
+    last = first + (700 if most else draw(min(90, total - first + 1)))
+    views = [(0, total), (first - 30, 100), (last - 30, 60), (total - 50, 50)] if most else [(0, total), (max(0, first - 6), 30)]
+    check_journal(browser, count, work / "random.html", text, name, views, draw, (first, last))
 
 
 def check_opened(browser, journal, opened):
@@ -905,18 +909,6 @@ def check_panel(browser, journal, draw):
     same("what is chosen", [*browser.texts("#none"), browser.title()], ["", "The whole"])
 
 
-def check_long(browser, count, work, seed, total):
-    """A journal of many blocks: what a window shows began and ended in other ones."""
-    text, name, draw = RandomJournal(seed, total).text(), f"long journal {seed}", random.Random(seed).randrange
-    views = [(draw(total - steps + 1), steps) for steps in (total, 900, 450, 100, 100, 30, 30)]
-    ends = zip(range(3, total // BLOCK, 4), (60, 58, 57, 30, 2, 0) * 9)  # of blocks
-    views += [(at * BLOCK - back, 60) for at, back in ends]
-    check_journal(browser, count, work / "random.html", text, name, views, draw)
-    first, last = total // 3, total // 3 + 700
-    views = [(0, total), (first - 30, 100), (last - 30, 60), (total - 50, 50)]
-    check_journal(browser, count, work / "random.html", text, name, views, draw, (first, last))
-
-
 def check_edges(browser, count, work):
     """Journals of as many steps as blocks have, with one more or less."""
     for total in 1, BLOCK - 1, BLOCK, BLOCK + 1, 2 * BLOCK:
@@ -936,7 +928,7 @@ def check_burst(browser, count, work):
 
 # ---- whether this test would notice
 
-# a pipe; workers; each process takes two locks, then 0 fills port 3, and all wait; values that lie long in a port
+# a pipe; workers; values that lie long in a port
 JOURNALS = {
     "pipe": "chanhub journal 2\nprocs 4\n0 make 0\n0 make 2\n0 make 0\n" + "".join(
         f"1 recv 1\n0 send 1 {n}\n1 send 2 {n}\n2 recv 2\n2 send 3 {n}\n3 recv 3\n" for n in range(100, 140)
@@ -944,10 +936,6 @@ JOURNALS = {
     "workers": "chanhub journal 2\nprocs 4\n0 make 2\n0 make 0\n0 make 0\n3 recv 3\n" + "".join(
         f"0 send 1 {n}\n1 recv 1\n1 send 2 {n}\n0 send 1 {n + 1}\n2 recv 2\n1 recv 1\n2 recv 2\n1 send 2 {n + 1}\n"
         for n in range(100, 130)) + "2 recv 1\n1 recv 1\n0 send 3 7\n3 recv 1\n0 recv 2\n",
-    "locks": "chanhub journal 2\nprocs 3\n0 make 1\n0 make 1\n0 make 5\n" + "".join(
-        f"{pid} send 1 {pid}\n{pid} send 2 {pid}\n{pid} recv 2\n{pid} recv 1\n" for pid in (0, 1, 2)
-    ) + "".join(f"0 send 3 {n}\n" for n in range(5)) + (
-        "2 send 2 2\n0 send 1 0\n1 send 1 1\n2 send 1 2\n0 send 2 0\n1 exit\n2 send 3 9\n0 send 3 8\n"),
     "burst": "chanhub journal 1\nprocs 2\n0 make 100\n" + "".join(f"0 send 1 {n}\n" for n in range(100)) + "1 recv 1\n" * 90,
     "left": ROWS["left"],
 }
@@ -1207,7 +1195,7 @@ def main():
             check_random(browser, count, work, seed)
             check_random(browser, count, work, seed, third=True)
         for seed, total in LONG:
-            check_long(browser, count, work, seed, total)
+            check_random(browser, count, work, seed, total)
         for check in check_columns, check_edges, check_burst:
             run(check)
         count.same("errors in the console of right pages", browser.errors[:2], [])

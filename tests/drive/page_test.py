@@ -499,19 +499,13 @@ def levels_of(drawn, journal, first, end):
             yield left, right, level.port, 16.0 * level.count / journal.ports[level.port].room
 
 
-def fill_of(colours, label):
-    """How the box of this label is filled."""
-    if re.fullmatch(r"[sr]\d+", label):
-        return colours["paper" if label[0] == "r" else "edge" if label == "s0" else f"h{int(label[1:]) % 8}"]
-    return colours["grey"]
-
-
-def dash_of(one):
-    """How the edge of a box is dashed."""
-    if one.is_trouble:
-        return "6px, 2px"
-    end = one.end or "still"
-    return {"still": "4px, 3px", "drained": "2px, 3px", "cancelled": "1px, 2px"}.get(end.split()[-1], "none")
+def look_of(one, colours):
+    """How the box of a step is filled, and how its edge is dashed."""
+    label, end = label_of(one), "trouble" if one.is_trouble else (one.end or "still").split()[-1]
+    is_case = re.fullmatch(r"[sr]\d+", label)
+    fill = "grey" if not is_case else "paper" if label[0] == "r" else "edge" if label == "s0" else f"h{int(label[1:]) % 8}"
+    dashes = {"trouble": "6px, 2px", "still": "4px, 3px", "drained": "2px, 3px", "cancelled": "1px, 2px"}
+    return colours[fill], dashes.get(end, "none")
 
 
 def check_boxes(drawn, journal, first, end):
@@ -522,7 +516,7 @@ def check_boxes(drawn, journal, first, end):
         one = boxes[drawn.place(shape.center)]
         same("a box", shape.told, title_of(one, journal.count))
         if drawn.dots >= 5:
-            same(f"step {one.place + 1} looks", (shape.fill, shape.dash), (fill_of(drawn.colours, label_of(one)), dash_of(one)))
+            same(f"step {one.place + 1} looks", (shape.fill, shape.dash), look_of(one, drawn.colours))
     texts = {drawn.place(shape.x): shape.text for shape in drawn.kind("label")}
     for one in boxes.values() if drawn.dots >= 60 else ():
         label, value, told = label_of(one), value_of(one), texts.get(one.place)
@@ -775,8 +769,9 @@ def check_journal(browser, count, path, text, name, views, draw, window=None):
     name = f"steps {window[0]} to {window[1]} of {name}" if window else name
     run = lambda what, check, *words: count.run(f"{name}: {what}", lambda: check(*words))
     if window:
-        opened = browser.value("[page.view.first, page.view.steps]")
-        run("in view as it opens", check_opened, browser, journal, opened)
+        *opened, least = browser.value("[page.view.first, page.view.steps, (page.view.width - 64) / 90]")
+        steps = float(min(journal.count, max(window[1] - window[0] + 1, least)))
+        count.test(f"{name} are in view", close(opened, [min(window[0] - 1, journal.count - steps), steps], 0.5), opened)
         views = [opened, *views]
     for view in views:
         run(f"view {view}", check_view, browser, journal, *view)
@@ -804,14 +799,6 @@ def check_random(browser, count, work, seed, most=0, third=False):
     last = first + (700 if most else draw(min(90, total - first + 1)))
     views = [(0, total), (first - 30, 100), (last - 30, 60), (total - 50, 50)] if most else [(0, total), (max(0, first - 6), 30)]
     check_journal(browser, count, work / "random.html", text, name, views, draw, (first, last))
-
-
-def check_opened(browser, journal, opened):
-    """A page of some steps opens with them in view."""
-    first, last = journal.shown
-    least = browser.value("(page.view.width - 64) / 90")
-    steps = min(journal.count, max(last - first + 1, least))
-    assert close(opened, [float(min(first - 1, journal.count - steps)), float(steps)], 0.5), opened
 
 
 def check_way_back(browser, journal, opened):
@@ -910,20 +897,12 @@ def check_panel(browser, journal, draw):
 
 
 def check_edges(browser, count, work):
-    """Journals of as many steps as blocks have, with one more or less."""
-    for total in 1, BLOCK - 1, BLOCK, BLOCK + 1, 2 * BLOCK:
-        text = RandomJournal(total, total).text()
-        open_page(browser, text, work / "edges.html")
-        count.run(f"sketches of {total} steps", lambda: check_sketches(text, Journal(text)))
-        count.run(f"data of {total} steps", lambda: check_data(browser, Journal(text)))
-
-
-def check_burst(browser, count, work):
-    """Values that lie in a port for a block and more, so that one end is out of view; the last ten stay there."""
-    journal = Journal(JOURNALS["burst"])
-    open_page(browser, JOURNALS["burst"], work / "burst.html")
-    for first in range(0, journal.count - 40, 30):
-        count.run(f"a burst, 40 steps from {first + 1} on", lambda: check_view(browser, journal, first, 40))
+    """Journals of as many steps as blocks have, with one more or less; and values that lie in a port for a block and more, so that
+    one end is out of view."""
+    cases = [(f"{total} steps", RandomJournal(total, total).text(), []) for total in (1, BLOCK - 1, BLOCK, BLOCK + 1, 2 * BLOCK)]
+    cases.append(("a burst", JOURNALS["burst"], [(first, 40) for first in range(0, 151, 30)]))
+    for name, text, views in cases:
+        check_journal(browser, count, work / "edges.html", text, name, views, random.Random(name).randrange)
 
 
 # ---- whether this test would notice
@@ -1075,24 +1054,18 @@ def check_rows(browser, count, work, row):
     for verb, *words in row["steps"]:
         if verb == "is":
             name, script, wanted = words
-            told = told_at_last(browser, script, wanted)
-            count.test(f"{row['name']}: {name}", told == wanted, told)
+            for _ in range(20):  # on a busy machine it may take a while to be so
+                told = browser.value(script)
+                if told == wanted:
+                    break
+                browser.settle()
+            count.same(f"{row['name']}: {name}", told, wanted)
         elif verb == "open":
             browser.open(path, *words)
         elif verb == "shapes":
             count.run(f"{row['name']}: shapes", lambda: check_view(browser, journal, *words))
         else:
             getattr(browser, verb)(*words)
-
-
-def told_at_last(browser, script, wanted):
-    """What a script tells, which on a busy machine may take a while to be so."""
-    for _ in range(20):
-        told = browser.value(script)
-        if told == wanted:
-            break
-        browser.settle()
-    return told
 
 
 # ---- bytes, contrasts, a million
@@ -1196,8 +1169,8 @@ def main():
             check_random(browser, count, work, seed, third=True)
         for seed, total in LONG:
             check_random(browser, count, work, seed, total)
-        for check in check_columns, check_edges, check_burst:
-            run(check)
+        run(check_columns)
+        run(check_edges)
         count.same("errors in the console of right pages", browser.errors[:2], [])
         run(check_notices)
         run(check_contrasts)

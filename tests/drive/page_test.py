@@ -897,8 +897,8 @@ def check_panel(browser, journal, draw):
 
 
 def check_edges(browser, count, work):
-    """Journals of as many steps as blocks have, with one more or less; and values that lie in a port for a block and more, so that
-    one end is out of view."""
+    """Journals of as many steps as blocks have, with one more or less; and values that lie in a port for a block and more, so
+    that one end is out of view."""
     cases = [(f"{total} steps", RandomJournal(total, total).text(), []) for total in (1, BLOCK - 1, BLOCK, BLOCK + 1, 2 * BLOCK)]
     cases.append(("a burst", JOURNALS["burst"], [(first, 40) for first in range(0, 151, 30)]))
     for name, text, views in cases:

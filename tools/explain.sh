@@ -12,8 +12,8 @@ usage: explain.sh SCENARIO [FROM [TO]]
 
 Takes a journal, which is a file that begins with `chanhub journal `, or runs a scenario to get one. Writes its page, and the story
 and the picture of all its steps, of step FROM, or of steps FROM to TO. Prints the paths of the story, the picture and the page, and
-opens the page. A run that stalls is explained too. If all of more than 300 steps are to be drawn, there are an overview and pictures
-of the steps round stalls and round both ends of the longest waits instead.
+opens the page. A run that stalls is explained too. All of more than 300 steps are not drawn in a picture: the page's strip shows
+them, and this is said.
 With --every, the journal is a run of the scenario that stalls, and what `chanhub_tool explore` says is printed first.
 If no run stalls, that is all, with status 0; if there are too many states, likewise, with status 5.
 With --after, the journal is a chapter of a hub that never ends, and CHAPTER is the one before. Where its checkpoint ends is printed
@@ -93,13 +93,7 @@ fi
 "$tool" page "$folder/journal" -o "$folder/page.html"
 echo "$folder/story.txt"
 if [ $# = 0 ] && [ "$(wc -l < "$folder/journal")" -gt 302 ]; then
-    "$root/tools/overview.py" "$folder/journal" > "$folder/overview.svg"
-    echo "$folder/overview.svg"
-    "$root/tools/windows.py" "$folder/journal" > "$folder/windows"
-    while read -r first last; do
-        "$tool" picture "$first" "$last" "$folder/journal" -o "$folder/picture-$first-$last.svg"
-        echo "$folder/picture-$first-$last.svg"
-    done < "$folder/windows"
+    echo 'no picture of more than 300 steps: the strip of the page shows all, and FROM and TO draw some' >&2
 else
     "$tool" picture "$@" "$folder/journal" -o "$folder/picture.svg"
     echo "$folder/picture.svg"

@@ -1,11 +1,11 @@
 // What page_test.py asks of a page. It is read before the page's own scripts.
 
-// Keeps each call to a canvas, with the colours that it has then.
+// Keeps each call to a canvas.
 window.drawn = [];
 for (const name of ["fillRect", "fillText"]) {
     const draw = CanvasRenderingContext2D.prototype[name];
     CanvasRenderingContext2D.prototype[name] = function (...words) {
-        if (window.drawn) window.drawn.push([this.canvas.id, name, words, this.fillStyle]);
+        if (window.drawn) window.drawn.push([this.canvas.id, name, words]);
         return draw.apply(this, words);
     };
 }
@@ -13,7 +13,8 @@ for (const name of ["fillRect", "fillText"]) {
 // What stands in the page as shapes, each with the numbers of its path.
 window.shapesDrawn = () => [...document.querySelectorAll("#lanes :is(rect, circle, path, text)")].map((shape) => {
     const of = (name) => Number(shape.getAttribute(name)), look = getComputedStyle(shape);
-    return { tag: shape.tagName, kind: shape.getAttribute("class").split(" "), x: of("x"), y: of("y"), width: of("width"), height: of("height"),
+    const [x, y, width, height] = ["x", "y", "width", "height"].map(of);
+    return { kind: shape.getAttribute("class").split(" "), x, y, width, height, right: x + width, center: x + width / 2, middle: y + height / 2,
         cx: of("cx"), cy: of("cy"), way: (shape.getAttribute("d") ?? "").match(/-?[0-9.]+/g)?.map(Number), fill: look.fill, stroke: look.stroke,
         dash: look.strokeDasharray, told: shape.querySelector("title")?.textContent, text: shape.tagName === "text" ? shape.textContent : "" };
 });
@@ -64,26 +65,28 @@ window.lowContrasts = () => {
     return faults;
 };
 
-// How many milliseconds each of twenty moves takes, the shortest first.
-window.timesOfMoves = () => {
-    const took = [];
-    for (let at = 0; at < 20; at++) {
-        const begin = performance.now();
-        page.view.pan(page.view.steps / 20);
-        page.paint();
-        document.body.offsetHeight;
-        took.push(performance.now() - begin);
-    }
-    return took.sort((one, other) => one - other);
-};
-
 // What is told in each of these elements, with single spaces.
 window.textsOf = (selector) => [...document.querySelectorAll(selector)].map((one) => one.textContent.trim().replace(/\s+/g, " "));
+
+// The value of the chosen step, and its line, to the letter.
+window.valueAndLine = () => [[...document.querySelectorAll("#step td b")].at(-1), document.querySelector("#step code")].map((one) => one.textContent);
+
+// Where on the page a step of a process stands.
+window.placeOfStep = (step, lane) => {
+    const at = document.getElementById("lanes").getBoundingClientRect();
+    return [at.x + page.view.x(step), at.y + page.view.place.get(lane).y];
+};
+
+// The pale fields before the steps that are told and behind them.
+window.fieldsOfPage = () => ["early", "late"].map((id) => document.getElementById(id)).map((one) => [one.offsetLeft, one.offsetWidth, one.textContent]);
 
 window.titleOfPanel = () => [...document.querySelectorAll("#panel h2")].find((one) => one.checkVisibility()).textContent;
 
 window.namesOfLanes = () => [...document.querySelectorAll("#lanes .name")].filter((one) => one.textContent)
     .sort((a, b) => a.getAttribute("y") - b.getAttribute("y")).map((one) => one.textContent);
+
+// How many parts of the panel are wider than what of them is shown.
+window.cutOff = () => [...document.querySelectorAll("#panel, #panel table, #panel pre")].filter((one) => one.scrollWidth > one.clientWidth).length;
 
 // The places of the steps whose boxes are not pale.
 window.clearBoxes = () => [...document.querySelectorAll("#lanes .box")].filter((box) => getComputedStyle(box).opacity === "1")

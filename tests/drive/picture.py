@@ -1,16 +1,14 @@
 #!/usr/bin/env python3
 """picture.py TOOL: checks the pictures of the built chanhub_tool (TOOL), of the example journals, of 200 random ones and of
 windows of each. What a picture has to show is worked out here, from the journal and from the events that tools/model.py tells
-of it, and never from a picture: the boxes are the entries, the bars the calls that waited, the arrows go from the k-th value
-that was sent on a port to the k-th that was received, the stalls are the calls that were told so, the levels are what ports hold
-from step to step. Arrows lie behind the boxes, and go from one's side to the other's; a lane ends at its process's exit. The
-pictures of docs/pictures are drawn again and compared; each of them is drawn with each allocation refused, which needs a C
-compiler; pictures of the longest journal, in which many wait, have to come soon, and a step costs as much however many wait, by
-valgrind where it is there, and the time of a whole picture grows with its steps and not with their square; and Chromium, where it
-is there, is asked on white and on dark paper whether all of a picture is in view, no text lies over another's box, over an arrow or
-beyond its own box, no tip of an arc that tells who waits for whom lies under a box or a bar, and all contrasts are at least 3.
-The last line counts: 'N passed, M failed', and 'K skipped' for what is not there."""
+of it, and never from a picture. The pictures of docs/pictures are drawn again and compared; each of them is drawn with each
+allocation refused, which needs a C compiler; pictures of the longest journal, in which many wait, have to come soon, and a step
+costs as much however many wait, by valgrind where it is there, and the time of a whole picture grows with its steps and not with
+their square; and Chromium, where it is there, is asked on white and on dark paper whether all of a picture is in view, no text
+lies over another's box, over an arrow or beyond its own box, no tip of an arc that tells who waits for whom lies under a box or
+a bar, and all contrasts are at least 3. The last line counts: 'N passed, M failed', and 'K skipped' for what is not there."""
 import collections
+import itertools
 import pathlib
 import random
 import re
@@ -23,6 +21,7 @@ import xml.etree.ElementTree as xml
 
 sys.dont_write_bytecode = True
 from programs import JOURNALS, MINUTE as WAIT, ROOT, Count, busy_time, examples, table
+from instructions import has_valgrind, instructions
 from refusals import Refuser
 import random_journal
 import walk
@@ -53,7 +52,8 @@ class Journal(walk.Journal):
     """A journal, with what a picture tells of it."""
 
     def __init__(self, text):
-        self.lives, self.stalled, self.vain = collections.defaultdict(lambda: [[None, None]]), [], {}  # who waits in vain, by step
+        self.lives = collections.defaultdict(lambda: [[None, None]])
+        self.stalled, self.vain = [], {}  # who waits in vain, by step
         self.moved = {"s": collections.defaultdict(list), "r": collections.defaultdict(list)}
         super().__init__(text)
         self.left_waiting = [wait._replace(whom=None) for wait in self.waits(self.waiting.values())]
@@ -98,8 +98,8 @@ class Bands:
 
     def y(self, band, pid, journal):
         """Where a process stands in a band."""
-        procs = journal.procs
-        return TOP + band * (self.lane * (procs + 2) + STRIP * len(shown_ports(journal, self))) + self.lane * (1 + min(pid, procs))
+        height = self.lane * (journal.procs + 2) + STRIP * len(shown_ports(journal, self))
+        return TOP + band * height + self.lane * (1 + min(pid, journal.procs))
 
     def band(self, place):
         return (place - self.first) // self.steps
@@ -108,7 +108,8 @@ class Bands:
         return self.first <= place < self.end
 
     def between(self, since, until):
-        """The bands of what goes on from one step until another."""
+        """The bands of what goes on from one step until another, or to the end."""
+        until = self.end if until is None else until
         if since >= self.end or until < self.first:
             return []
         return range(self.band(max(since, self.first)), self.band(min(until, self.end - 1)) + 1)
@@ -129,10 +130,8 @@ def boxes(journal, bands):
 
 def bars(journal, bands):
     for entry in journal.entries:
-        until = bands.end if entry.end is None else entry.by
-        if entry.place < until:
-            for band in bands.between(entry.place, until):
-                yield band, title_of(entry)
+        if entry.place < (bands.end if entry.end is None else entry.by):
+            yield from ((band, title_of(entry)) for band in bands.between(entry.place, entry.by))
 
 
 def arrows(journal, bands):
@@ -143,7 +142,7 @@ def arrows(journal, bands):
 
 def shown_ports(journal, bands):
     """The ports that hold a value in the window, each of which has a strip."""
-    return sorted({held.port for held in journal.held() if bands.between(held.first, bands.end if held.until is None else held.until)})
+    return sorted({held.port for held in journal.held() if bands.between(held.first, held.until)})
 
 
 def strips(journal, bands):
@@ -156,8 +155,7 @@ def levels(journal, bands):
     for held in journal.held():
         until = "on" if held.until is None else f"until step {held.until + 1}"
         title = f"port {held.port} holds {held.count} of {journal.ports[held.port].room} from step {held.first + 1} {until}\n"
-        for band in bands.between(held.first, bands.end if held.until is None else held.until):
-            yield band, title
+        yield from ((band, title) for band in bands.between(held.first, held.until))
 
 
 def shown_case(entry):
@@ -182,7 +180,8 @@ MARKS = {
     "makes a port": lambda entry, end: end.startswith("made"),
     "closes a port": is_done("close"),
     "reopens a port": is_done("reopen"),
-    "no case fired": lambda entry, end: entry.word == "call" and len(entry.cases) != 1 and end.split(" ")[0] not in ("case", "default", "fault"),
+    "no case fired": lambda entry, end: (
+        entry.word == "call" and len(entry.cases) != 1 and end.split(" ")[0] not in ("case", "default", "fault")),
     "default taken": lambda entry, end: end == "default",
     "cancels a call": is_done("cancel"),
     "starts a process": is_done("start"),
@@ -199,17 +198,17 @@ def mover_words(mover):
 
 
 def waits(journal, bands):
-    """A row for each case of those whom the last step that stalls anyone stalls, and of those who wait in the end, where that is shown; and
-    at which step."""
+    """A row for each case of those whom the last step that stalls anyone stalls, and of those who wait in the end, where that is
+    shown; and at which step."""
     stalls = [by for by in journal.vain if bands.has(by)]
     rows = [(stalls[-1], wait) for wait in journal.vain[stalls[-1]]] if stalls else []
     rows += [(bands.end, wait) for wait in journal.left_waiting] if bands.end >= len(journal.entries) else []
     for step, wait in rows:
-        yield (
-            f"P{wait.entry.pid} has waited since step {wait.entry.place + 1} to {'send on' if wait.side == 's' else 'receive from'} port {wait.port}; "
-            f"last sent there by {mover_words(wait.sender)}, last received by {mover_words(wait.receiver)}"
-            f"{'; all who received there have left' if wait.is_left else ''}. "
-        ) + ("" if wait.whom is None else f"Perhaps it waits for P{wait.whom}. "), step, wait.entry.pid, wait.whom
+        pid, does = wait.entry.pid, "send on" if wait.side == "s" else "receive from"
+        told = f"P{pid} has waited since step {wait.entry.place + 1} to {does} port {wait.port}; "
+        told += f"last sent there by {mover_words(wait.sender)}, last received by {mover_words(wait.receiver)}"
+        told += "; all who received there have left" * wait.is_left + ". "
+        yield told + ("" if wait.whom is None else f"Perhaps it waits for P{wait.whom}. "), step, pid, wait.whom
 
 
 def outside(journal, bands):
@@ -244,14 +243,16 @@ def legend(journal, bands):
 def stalls(journal, bands):
     for entry in journal.stalled:
         if bands.has(entry.by):
-            yield bands.band(entry.by), f"step {entry.by + 1} stalls process {entry.pid}, which has waited since step {entry.place + 1}\n"
+            told = f"step {entry.by + 1} stalls process {entry.pid}, which has waited since step {entry.place + 1}\n"
+            yield bands.band(entry.by), told
 
 
 # ---- what it shows
 
 
 def shapes(root, shape):
-    return [(group, group.find(SVG + "title").text) for group in root.findall(SVG + "g") if group.get("class").split()[0] == shape]
+    groups = (group for group in root.findall(SVG + "g") if group.get("class").split()[0] == shape)
+    return [(group, group.find(SVG + "title").text) for group in groups]
 
 
 def number(element, name):
@@ -301,14 +302,14 @@ def column(place, band, bands, columns, edges):
 
 
 def lanes_agree(root, journal, bands):
-    """Each lane goes from the left edge of its band, or from the column of the step that started its process again, to the column of
-    the exit of its process, or to the right edge; a process that is not there has none, and no name."""
+    """Each lane goes from the left edge of its band, or from the column of the step that started its process again, to the column
+    of the exit of its process, or to the right edge; a process that is not there has none, and no name."""
     lanes = [numbers(path) for path in root.iter(SVG + "path") if path.get("class") == "lane"]
     columns, wanted, names = columns_of(root), [], []
     for band in range(bands.count):
         first = bands.first + band * bands.steps
-        edges = 60, 60 + 2 * bands.half * (min(bands.end, first + bands.steps) - first)
         end = min(bands.end, first + bands.steps)
+        edges = 60, 60 + 2 * bands.half * (end - first)
         for pid, begun, exited in ((pid, *life) for pid in range(journal.procs) for life in journal.lives[pid]):
             if (exited is None or exited >= first) and (begun is None or begun < end):
                 y = bands.y(band, pid, journal)
@@ -329,11 +330,7 @@ def levels_agree(root, journal, bands):
         left, floor, right, _, full, _ = numbers(group.find(SVG + "path"))
         strips[place // len(shown_ports(journal, bands)), int(title.split()[1])] = left, right, floor
         assert floor - full == FULL, title
-    wanted = by_band(
-        (band, held)
-        for held in journal.held()
-        for band in bands.between(held.first, bands.end if held.until is None else held.until)
-    )
+    wanted = by_band((band, held) for held in journal.held() for band in bands.between(held.first, held.until))
     for (group, title), (band, held) in zip(shapes(root, "level"), wanted):
         left, right, floor = strips[band, held.port]
         rect = group.find(SVG + "rect")
@@ -346,8 +343,8 @@ def levels_agree(root, journal, bands):
 
 
 def arrows_agree(root, wanted, journal, bands):
-    """Each goes from the side of its sender that faces the receiver to the side of this one that faces the sender, as an arc above
-    the lane where both are one; in the columns of their steps where its band has them, and else with no mark or no tip."""
+    """Each goes from the side of its sender that faces the receiver to the side of this one that faces the sender, as an arc
+    above the lane where both are one; in the columns of their steps where its band has them, and else with no mark or no tip."""
     columns = columns_of(root)
     for (group, title), (band, _) in zip(shapes(root, "arrow"), by_band(wanted)):
         ends = numbers(group.find(SVG + "path"))
@@ -365,13 +362,13 @@ def arrows_agree(root, wanted, journal, bands):
         for x, step, known in zip((ends[0], ends[-2]), steps, inside):
             assert not known or x == columns[step], title
         port = int(title.split()[1])
-        words = ["arrow", f"h{port % HUES}", *(["comes"] if not inside[0] else []), *(["leaves"] if not inside[1] else [])]
-        assert group.get("class").split() == words, title
+        ends = [word for word, known in zip(("comes", "leaves"), inside) if not known]
+        assert group.get("class").split() == ["arrow", f"h{port % HUES}", *ends], title
 
 
 def whoms_agree(root, wanted, journal, bands):
-    """Each stands on the right of the column of its step, from the lane of the one who waits to above the box of the other; upwards
-    it goes out twice as far."""
+    """Each stands on the right of the column of its step, from the lane of the one who waits to above the box of the other;
+    upwards it goes out twice as far."""
     columns = columns_of(root)
     for (group, title), (band, _, step, pid, other) in zip(shapes(root, "whom"), by_band(wanted)):
         x, y, to = columns[step] + bands.half, bands.y(band, pid, journal), bands.y(band, other, journal) - bands.size // 2 - 5
@@ -419,19 +416,21 @@ def places_agree(root):
         steps = re.findall(r"by step (\d+)", title)
         ends = numbers(group.find(SVG + "path"))
         assert (steps[0] == steps[1]) <= (ends[0] == ends[-2]), title
-    width, height = number(root, "width"), number(root, "height")
     for rect in root.findall(f"{SVG}g/{SVG}rect"):
-        assert 0 <= int(rect.get("x", 0)) and int(rect.get("x", 0)) + number(rect, "width") <= width, "a box is outside"
-        assert 0 <= int(rect.get("y", 0)) and int(rect.get("y", 0)) + number(rect, "height") <= height, "a box is outside"
+        for place, size in ("x", "width"), ("y", "height"):
+            begin = int(rect.get(place, 0))
+            assert 0 <= begin and begin + number(rect, size) <= number(root, size), "a box is outside"
 
 
 def same(shape, shown, wanted):
     """The titles of a shape in the order of bands, and in a band in that in which they are wanted."""
     wanted = [title for _, title, *_ in by_band(wanted)]
     shown = [title for _, title in shown]
-    assert shown == wanted, f"{shape}: {len(shown)} shown, {len(wanted)} wanted; first other: " + next(
-        (f"{one!r} for {other!r}" for one, other in zip(shown, wanted) if one != other), "one is the beginning of the other"
-    )
+    others = ((one, other) for one, other in itertools.zip_longest(shown, wanted) if one != other)
+    assert shown == wanted, f"{shape}: {len(shown)} shown, {len(wanted)} wanted; first other: {next(others)}"
+
+
+SHAPES = {"box": boxes, "bar": bars, "arrow": arrows, "stall": stalls, "strip": strips, "level": levels, "whom": whoms}
 
 
 def check_picture(picture, journal, first, end):
@@ -442,7 +441,7 @@ def check_picture(picture, journal, first, end):
     allowed = "svg title style defs marker rect circle path text tspan use g".split()
     assert all(element.tag[len(SVG) :] in allowed for element in root.iter()), "an element of another kind"
     bands = Bands(first, end)
-    for shape, wanted in {"box": boxes, "bar": bars, "arrow": arrows, "stall": stalls, "strip": strips, "level": levels, "whom": whoms}.items():
+    for shape, wanted in SHAPES.items():
         same(shape, shapes(root, shape), wanted(journal, bands))
     layers_agree(root)
     arrows_agree(root, arrows(journal, bands), journal, bands)
@@ -462,6 +461,7 @@ def check_picture(picture, journal, first, end):
 # ---- what a browser shows
 
 PAGE = ROOT / "tests" / "drive" / "picture.html"
+HEADLESS = "--headless", "--no-sandbox", "--disable-gpu"
 
 
 def browser():
@@ -475,7 +475,7 @@ def check_views(count, pictures):
         with tempfile.TemporaryDirectory() as work:
             page = pathlib.Path(work) / "page.html"
             page.write_text(PAGE.read_text().replace("PICTURES", sections))
-            words = [browser(), "--headless", "--no-sandbox", "--disable-gpu", f"--user-data-dir={work}/user", *more, "--dump-dom", page.as_uri()]
+            words = [browser(), *HEADLESS, f"--user-data-dir={work}/user", *more, "--dump-dom", page.as_uri()]
             shown = output_of(words, wait=LONG).decode()
         for name in pictures:
             faults = re.search(f"faults of {re.escape(name)}: ([^<]*)<", shown)
@@ -508,8 +508,8 @@ MOST_FACTOR = 2
 
 
 def busy_journal(steps, waiting, ports):
-    """A journal of so many entries. The last of 64 processes makes a port on which nobody sends, and these ports, which have room;
-    so many processes then wait to receive by 16 cases; and it sends and receives on its ports, one after the other."""
+    """A journal of so many entries. The last of 64 processes makes a port on which nobody sends, and these ports, which have
+    room; so many processes then wait to receive by 16 cases; and it sends and receives on its ports, one after the other."""
     lines = ["63 make 0"] * 16 + ["63 make 4"] * ports
     lines += [f"{pid} select 0 " + " ".join(f"r{1 + (pid + case) % 16}" for case in range(16)) for pid in range(waiting)]
     moves = range((steps - len(lines)) // 2)
@@ -526,17 +526,8 @@ def is_soon(program, journal, steps, first):
     """Whether the picture of this journal, with all who wait at its end, is soon there: of 1,000 steps, from this one on."""
     words = [program, "picture", str(first), str(first + 999)]
     picture = subprocess.run(words, input=journal, capture_output=True, timeout=LONG, check=True, preexec_fn=limit_time).stdout
-    assert picture.count(b'<tspan class="waits"') == (63 * 16 if first + 999 == steps else 0), "those who wait at the end are others"
-
-
-def instructions(program, words, journal):
-    with tempfile.TemporaryDirectory() as work:
-        path = pathlib.Path(work) / "journal"
-        path.write_bytes(journal)
-        with open(path, "rb") as file:
-            counted = ["valgrind", "--tool=cachegrind", "--cache-sim=no", "--cachegrind-out-file=/dev/null", program, *words]
-            done = subprocess.run(counted, stdin=file, stdout=subprocess.DEVNULL, stderr=subprocess.PIPE, text=True, check=True)
-    return int(re.search(r"I *refs: *([\d,]+)", done.stderr)[1].replace(",", ""))
+    waits = picture.count(b'<tspan class="waits"')
+    assert waits == (63 * 16 if first + 999 == steps else 0), "those who wait at the end are others"
 
 
 def step_cost(program, waiting, ports):
@@ -544,19 +535,21 @@ def step_cost(program, waiting, ports):
     counts = []
     for size in FEW, 2 * FEW:
         journal, steps = busy_journal(size, waiting, ports)
-        counts.append(instructions(program, ["picture", str(steps), str(steps)], journal))
+        with tempfile.NamedTemporaryFile() as file:
+            pathlib.Path(file.name).write_bytes(journal)
+            counts.append(instructions([program, "picture", str(steps), str(steps)], file.name))
     return (counts[1] - counts[0]) / FEW
 
 
 def check_costs(count, program):
     """A step costs as much, however many wait, and however many ports there are."""
-    if not shutil.which("valgrind"):
+    if not has_valgrind():
         count.skip("instructions of pictures, since there is no valgrind")
         return
     alone = step_cost(program, 1, 1)
     for waiting, ports in (63, 1), (1, 48):
         cost = step_cost(program, waiting, ports)
-        told = f"{cost:.0f} instructions a step where {waiting} wait and {ports} ports are busy, {alone:.0f} where one waits and one is"
+        told = f"{cost:.0f} instructions a step where {waiting} wait and {ports} ports are busy, {alone:.0f} where one and one"
         count.test(told, cost <= MOST_FACTOR * alone)
 
 
@@ -590,11 +583,13 @@ def check_times(count, program):
 def check_left(count, program):
     """At the stall, and where calls wait in the end since process 3 does not exit."""
     left = table("pages")["left"]
-    for name, text in ("all who received have left", left), ("they have left, and nobody is stalled", left.removesuffix("3 exit\n")):
+    rows = {"all who received have left": left, "they have left, and nobody is stalled": left.removesuffix("3 exit\n")}
+    for name, text in rows.items():
         check_journal(count, program, name, text.encode())
         journal = Journal(text)
         told = [row for row, *_ in waits(journal, Bands(0, len(journal.entries))) if "have left" in row]
-        count.test(f"{name}: in one row", len(told) == 1 and told[0].startswith("P0 has waited since step 16 to send on port 1;"), told)
+        begins = [row.startswith("P0 has waited since step 16 to send on port 1;") for row in told]
+        count.test(f"{name}: in one row", begins == [True], told)
 
 
 def check_journal(count, program, name, text, by_windows=True):
@@ -613,10 +608,10 @@ def check_journal(count, program, name, text, by_windows=True):
 def check_document(count, program, path):
     picture = path.with_suffix(".svg")
 
-    def test():
+    def check():
         assert picture.read_bytes() == output_of([program, "picture"], path.read_bytes()), "the picture is another"
 
-    count.run(str(picture.relative_to(ROOT)), test)
+    count.run(str(picture.relative_to(ROOT)), check)
 
 
 def main():
@@ -637,7 +632,8 @@ def main():
     check_growth(count, program)
     check_costs(count, program)
     if browser():
-        check_views(count, {path.name: output_of([program, "picture"], path.read_bytes()) for path in examples(JOURNALS) + documents})
+        paths = examples(JOURNALS) + documents
+        check_views(count, {path.name: output_of([program, "picture"], path.read_bytes()) for path in paths})
     else:
         count.skip("pictures in a browser, since there is no Chromium")
     return count.end()

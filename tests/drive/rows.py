@@ -78,7 +78,8 @@ def long_rows():
         # Each select ends at its second case, and leaves nothing behind at the port of its first.
         'hundred_selects_end_once': (
             2, '0 make 0\n' * 2 + each('1 select 0 r1 r2\n0 send 2 N\n', values) + '1 select 0 r1 r2\n0 send 1 7\n',
-            '0 made 1\n0 made 2\n' + each('1 parked\n0 case 0 sent\n1 case 1 got N\n', values) + '1 parked\n0 case 0 sent\n1 case 0 got 7\n',
+            '0 made 1\n0 made 2\n' + each('1 parked\n0 case 0 sent\n1 case 1 got N\n', values)
+            + '1 parked\n0 case 0 sent\n1 case 0 got 7\n',
         ),
         # The last of 64 senders parks, and all stall: 65 events of one step.
         'sixty_four_stall_at_once': (
@@ -91,7 +92,8 @@ def long_rows():
             '0 made 1\n' + each('N parked\n', others) + '0 done\n' + each('N case 0 drained\n', others),
         ),
         'greatest_capacity_at_the_last_port': (
-            1, '0 make 0\n' * 63 + '0 make 1024\n' + each('0 send 64 N\n', range(1025)), made + '0 case 0 sent\n' * 1024 + '0 parked\n0 stalled\n',
+            1, '0 make 0\n' * 63 + '0 make 1024\n' + each('0 send 64 N\n', range(1025)),
+            made + '0 case 0 sent\n' * 1024 + '0 parked\n0 stalled\n',
         ),
     }
 
@@ -230,14 +232,9 @@ def run_both(folder, text):
 def long_scenarios(folder):
     """Scenarios up to each limit, and one past it, on standard input and in a file."""
 
-    def ports(times):
-        return 'ports = [%s]\nprocess = [{steps = []}]\n' % ('0,' * times)
-
-    def processes(times):
-        return 'ports = []\nprocess = [%s]\n' % ('{steps = []},' * times)
-
-    def steps(times):
-        return 'ports = []\nprocess = [{steps = []}, {steps = [%s]}]\n' % ("'recv 1'," * times)
+    ports = lambda times: 'ports = [%s]\nprocess = [{steps = []}]\n' % ('0,' * times)
+    processes = lambda times: 'ports = []\nprocess = [%s]\n' % ('{steps = []},' * times)
+    steps = lambda times: 'ports = []\nprocess = [{steps = []}, {steps = [%s]}]\n' % ("'recv 1'," * times)
 
     def comment(size):
         text = 'ports = []\nprocess = [{steps = []}]\n#'
@@ -248,27 +245,23 @@ def long_scenarios(folder):
     port = 'port %d cap %d sent 0 received 0 left 0 sum 0 open\n'
     told = ''.join(port % (number, number) for number in range(1, 64))
     told += 'port 64 cap 64 sent 1 received 1 left 0 sum 9 open\nfaults 1\n'
-    rows = {
-        'no_port': (ports(0), ''),
-        'all_ports': (last, told),
-        'all_processes': (processes(64), ''),
-        'no_step': (steps(0), ''),
+    reported = lambda report: (0, report.encode(), b'')
+    for name, text, wanted in (
+        ('no_port', ports(0), reported('')),
+        ('all_ports', last, reported(told)),
+        ('all_processes', processes(64), reported('')),
+        ('no_step', steps(0), reported('')),
         # There is no port 1.
-        'all_steps': (steps(10000), 'faults 10000\n'),
-        'longest_file': (comment(1048576), ''),
-    }
-    for name, (text, report) in rows.items():
-        yield name, run_both(folder, text) == 2 * [(0, report.encode(), b'')]
-    rows = {
-        'one_port_more': (ports(65), 'bad ports'),
-        'no_process': (processes(0), 'bad processes'),
-        'one_process_more': (processes(65), 'bad processes'),
-        'one_step_more': (steps(10001), 'bad script: process 1 step 10000'),
-        'one_byte_more': (comment(1048577), 'too long'),
-        'one_byte_more_is_no_toml': ('=' * 1048577, 'too long'),
-    }
-    for name, (text, fault) in rows.items():
-        yield name, run_both(folder, text) == 2 * [refused('scenario: ' + fault)]
+        ('all_steps', steps(10000), reported('faults 10000\n')),
+        ('longest_file', comment(1048576), reported('')),
+        ('one_port_more', ports(65), refused('scenario: bad ports')),
+        ('no_process', processes(0), refused('scenario: bad processes')),
+        ('one_process_more', processes(65), refused('scenario: bad processes')),
+        ('one_step_more', steps(10001), refused('scenario: bad script: process 1 step 10000')),
+        ('one_byte_more', comment(1048577), refused('scenario: too long')),
+        ('one_byte_more_is_no_toml', '=' * 1048577, refused('scenario: too long')),
+    ):
+        yield name, run_both(folder, text) == 2 * [wanted]
 
 
 def one_port(capacity):
@@ -352,7 +345,8 @@ def devices(folder):
         yield 'standard error with room for %d bytes' % room, told == (2, b'', bad_header[:room])
     with open('/dev/full', 'wb') as full:
         for words, text in ((['replay'], JOURNAL), (['run'], stalls), (['run', '--journal'], stalls)):
-            yield ' '.join(words) + ' to a full device', said_into('stdout', full, ['chanhub', *words], text, executable=PROGRAM) == (1, FAILED_WRITE)
+            told = said_into('stdout', full, ['chanhub', *words], text, executable=PROGRAM)
+            yield ' '.join(words) + ' to a full device', told == (1, FAILED_WRITE)
         yield 'a fault line to a full device', said_into('stderr', full, ['chanhub', 'replay'], executable=PROGRAM) == (2, b'')
     for words in (['replay'], ['run']):
         unreadable = os.open(folder, os.O_RDONLY)

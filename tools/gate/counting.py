@@ -17,6 +17,9 @@ class Count:
             self.failures[name] = None
             print(f'failed: {name}: {why}'.rstrip(': '), flush=True)
 
+    def same(self, name, found, wanted):
+        self.test(name, found == wanted, f'{found!r}, and not {wanted!r}')
+
     def skip(self, name):
         self.skipped += 1
         print(f'skipped: {name}', flush=True)

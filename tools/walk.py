@@ -1,4 +1,5 @@
-"""A walk over a journal by model.py: what becomes of each entry, which value it moved and to whom, and what ports carried by then."""
+"""A walk over a journal by model.py: what becomes of each entry, which value it moved and to whom, and what ports carried by
+then."""
 import collections
 
 import model
@@ -6,8 +7,9 @@ import model
 NOBODY = -1  # the clock of a journal that has none
 
 Move = collections.namedtuple("Move", "side port value")
-# A case of a call that waits: who sent and who received there last, if anybody did; whether all have exited who received there since it
-# was opened last, if the case is a send; and the process for which it perhaps waits, as docs/EXPLAIN.md says it, or None.
+# A case of a call that waits: who sent and who received there last, if anybody did; whether all have exited who received there
+# since it was opened last, if the case is a send; and the process for which it perhaps waits, as docs/EXPLAIN.md says it, or
+# None.
 Wait = collections.namedtuple("Wait", "entry side port sender receiver is_left whom")
 
 
@@ -140,8 +142,9 @@ class Walk:
             port.opener, port.closer, port.receivers, port.room = entry, None, set(), max(port.room, room)
 
     def waits(self, entries):
-        """Each case of these calls, which wait at once. One that receives perhaps waits for who sent there last, or else for who received
-        there last, and one that sends the other way round: for the first of both who waits too, and not on the same side of the port."""
+        """Each case of these calls, which wait at once. One that receives perhaps waits for who sent there last, or else for who
+        received there last, and one that sends the other way round: for the first of both who waits too, and not on the same side
+        of the port."""
         offers = {entry.pid: {case[:2] for case in entry.cases} for entry in entries}
         for entry in entries:
             for side, number in (case[:2] for case in entry.cases):
@@ -171,8 +174,8 @@ class Journal(Walk):
 
 
 def clock_of(lines):
-    """The clock, which from edition 2 on may be the last of several processes. It receives on port 0, and else only cancels and exits. It
-    makes the first step, or more than one besides its exit."""
+    """The clock, which from edition 2 on may be the last of several processes. It receives on port 0, and else only cancels and
+    exits. It makes the first step, or more than one besides its exit."""
     head, procs, *lines = lines
     clock = int(procs.split()[1]) - 1
     own = [line.split()[1:] for line in lines if line.startswith(f"{clock} ")]

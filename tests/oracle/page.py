@@ -55,8 +55,8 @@ class Sketch:
 
 
 class Data:
-    """The data of a journal, line by line, of which those of steps that are not told are empty. Asked for are its first step and the last,
-    and the window has all steps of their blocks, and of those between."""
+    """The data of a journal, line by line, of which those of steps that are not told are empty. Asked for are its first step and
+    the last, and the window has all steps of their blocks, and of those between."""
 
     def __init__(self, lines, write, asked=None):
         count = len(lines) - 2
@@ -124,13 +124,15 @@ class Data:
         return f"{text}{sender};{entry.move.port}:{self.walk.ports[entry.move.port].count}"
 
     def tell_way(self, entry):
-        """A step sent what another one received: if one of them is in the window, the other one is told, and by which steps they ended."""
+        """A step sent what another one received: if one of them is in the window, the other one is told, and by which steps they
+        ended."""
         both = [entry, entry.partner] if entry.partner else []
         if any(one.place in self.window for one in both):
             self.told |= {place for one in both for place in (one.place, one.by)}
 
     def stalls(self, place, stalled):
-        """Who was there last, of a send whether all who received there have exited, and for whom each of these calls perhaps waits."""
+        """Who was there last, of a send whether all who received there have exited, and for whom each of these calls perhaps
+        waits."""
         for wait in self.walk.waits(stalled):
             movers = ("" if mover is None else str(place - mover.place) for mover in (wait.sender, wait.receiver))
             yield f";{wait.port}L{','.join(movers)}" + ("!" if wait.is_left else "")

@@ -24,7 +24,7 @@ class Entry:
         self.word, self.asked = model.step(fields[1:])
         self.cases = self.asked[0] if self.word == "call" else ()
         self.end = self.by = None  # the words of the event that ended it, and the place of the entry by which it ended
-        self.move = self.partner = None  # the value that it put into a port or took from it, and the entry at the other end of its way
+        self.move = self.partner = None  # the value that it put into a port or took from one, and the entry at its other end
 
     @property
     def fired(self):
@@ -60,7 +60,7 @@ class Port:
         self.receivers = set()  # since it was opened last
         self.sent = self.received = 0
         self.most, self.fullest = 0, None  # how many values were in it at most after a step, and the place of the first such step
-        self.lone = collections.deque()  # what moved values of which only one of both ends is told yet; a receiver may be told first
+        self.lone = collections.deque()  # what moved values of which only one end is told yet; a receiver may be told first
 
     @property
     def count(self):

@@ -17,7 +17,8 @@ class Conversation:
     """A `chanhub_tool serve` that is spoken with."""
 
     def __init__(self, program):
-        self.process = subprocess.Popen([program, "serve"], stdin=subprocess.PIPE, stdout=subprocess.PIPE, stderr=subprocess.PIPE, bufsize=0)
+        pipes = dict.fromkeys(("stdin", "stdout", "stderr"), subprocess.PIPE)
+        self.process = subprocess.Popen([program, "serve"], **pipes, bufsize=0)
 
     def say(self, piece):
         try:

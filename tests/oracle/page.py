@@ -22,7 +22,8 @@ BEFORE = ["head.html", "style.css", "body.html"]
 BETWEEN = ["story.html"]
 SCRIPTS = ["data.js", "view.js", "paint.js", "panel.js", "main.js"]
 AFTER = ["scripts.html", *SCRIPTS, "end.html"]
-LETTERS = {"make": "m", "send": "s", "recv": "r", "select": "?", "close": "c", "reopen": "o", "cancel": "x", "start": "g", "exit": "e"}
+LETTERS = {"make": "m", "send": "s", "recv": "r", "select": "?", "close": "c", "reopen": "o", "cancel": "x", "start": "g",
+           "exit": "e"}
 BLOCK = 64  # steps
 ENDS = {"sent": "s", "got": "g", "drained": "d", "closed": "c", "default": "D", "done": "k", "stalled": "S", "cancelled": "x"}
 
@@ -92,7 +93,8 @@ class Data:
 
     def line(self, entry, ended):
         pid, word, *more = entry.line.split(" ")
-        asked = pid + LETTERS[word] + (":" if word in ("send", "reopen") else "").join("!" if part == "default" else part for part in more)
+        parts = ("!" if part == "default" else part for part in more)
+        asked = pid + LETTERS[word] + (":" if word in ("send", "reopen") else "").join(parts)
         self.sketch.asked[self.lane(entry)] += 1
         if word in ("make", "reopen", "start", "exit"):
             self.told.add(entry.place)

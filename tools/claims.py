@@ -3,10 +3,10 @@
 
     claims.py [CRATE ..]
 
-Tells of each public call of these crates, or of all: its file; the first sentence of its doc comment; the labels of what it requires and
-ensures, '-' for a clause without one; the definitions of specs/ that these clauses cite, behind their files, and crates if these are
-others; and the must-fail edits that turn it. Public calls are the functions that a library offers, or the public ones of a program; public
-methods of such types; and methods of such traits if they ensure something.
+Tells of each public call of these crates, or of all: its file; the first sentence of its doc comment; the labels of what it
+requires and ensures, '-' for a clause without one; the definitions of specs/ that these clauses cite, behind their files, and
+crates if these are others; and the must-fail edits that turn it. Public calls are the functions that a library offers, or the
+public ones of a program; public methods of such types; and methods of such traits if they ensure something.
 """
 import functools
 import glob
@@ -63,7 +63,8 @@ def specs_file(crate, file):
 
 @functools.lru_cache(maxsize=None)
 def imports(path):
-    """Where that stands which a source imports, or a file of definitions passes on: crate, file and name there, by the name here."""
+    """Where that stands which a source imports, or a file of definitions passes on: crate, file and name there, by the name
+    here."""
     found = {}
     for crate, file, names in USE.findall(read(path)):
         specs = specs_file(crate, file)

@@ -4,26 +4,25 @@
     edits.py [--further] [--lacking] [--proved-in LOG] [--jobs N] [CRATE[/NAME] ..]
     edits.py --read [CRATE ..]
 
-Those of the tables crates/NAME/edits.txt that the gate tries, and after --further the others too; of these crates, or of all; or one by
-its name. After --lacking only those of which edits_tried.toml does not say that they were refused over the present contracts. The form of
-the tables is told in edit_files.py.
+Those of the tables crates/NAME/edits.txt that the gate tries, and after --further the others too; of these crates, or of all; or
+one by its name. After --lacking only those of which edits_tried.toml does not say that they were refused over the present
+contracts. The form of the tables is told in edit_files.py.
 
 It goes over the libraries that `rt ci` or `rt lib` left, and proves no crate whole. Of each crate the functions that its edits
 change are proved first, unchanged, with what they call; this shows that what is refused later is refused for its edit. With
 --proved-in that is left out: LOG is what `rt ci` prints, which may still run, and a crate's turn comes once it is proved there.
-Then edits of a crate that change different functions are made together on a copy, and the changed functions are checked, each
-by itself: a caller is checked against a contract, which no edit changes.
-An edit is refused where a goal of its own function is shown false, or left open by a search that came to its end. Where a search
-stopped at its limit, or an answer's line does not fit, the goals are asked anew, with a plain search in their place, in the edited
-crate and, where an answer stood, in the unchanged one: only what a search proves there and not here counts. What is left is no
-refusal, and fails: by a limit, by a name that is gone, by an answer's line, by a goal of safety alone (an index, a sum).
-One that is not refused beside others is tried alone. Prints a line for each edit, then how many by each kind, and last how many were
-refused: `N passed, M failed`. Status 0 where none failed, and something was tried. After --further writes to edits_tried.toml which
-were refused, and over which contracts.
+Then edits of a crate that change different functions are made together on a copy, and the changed functions are checked, each by
+itself: a caller is checked against a contract, which no edit changes. An edit is refused where a goal of its own function is
+shown false, or left open by a search that came to its end. Where a search stopped at its limit, or an answer's line does not fit,
+the goals are asked anew, with a plain search in their place, in the edited crate and, where an answer stood, in the unchanged
+one: only what a search proves there and not here counts. What is left is no refusal, and fails: by a limit, by a name that is
+gone, by an answer's line, by a goal of safety alone (an index, a sum). One that is not refused beside others is tried alone.
+Prints a line for each edit, then how many by each kind, and last how many were refused: `N passed, M failed`. Status 0 where none
+failed, and something was tried. After --further writes to edits_tried.toml which were refused, and over which contracts.
 
-After --read none is tried: all edits of the crates are made on copies and read by the compiler's front end, which
-checks names and types; but not where edits_tried.toml says that it has read the same edits with the same sources. What was read is
-written there. A crate fails if the record does not say of each of its edits that it was refused over the present contracts.
+After --read none is tried: all edits of the crates are made on copies and read by the compiler's front end, which checks names
+and types; but not where edits_tried.toml says that it has read the same edits with the same sources. What was read is written
+there. A crate fails if the record does not say of each of its edits that it was refused over the present contracts.
 """
 import argparse
 import collections
@@ -122,7 +121,8 @@ def judge(batch, ran):
 
 
 def asked_files(edits, ran, found, search):
-    """The Answers of the functions whose goals are to be asked anew, and those of them that stand for an answer, for the unchanged crate."""
+    """The Answers of the functions whose goals are to be asked anew, and those of them that stand for an answer, for the
+    unchanged crate."""
     asked, plain = {}, {}
     for goals in (found[it.name()] for it in edits):
         for function in dict.fromkeys(it.function for it in goals):
@@ -233,7 +233,8 @@ def prove_unchanged(crate, edits, kept):
 
 @functools.lru_cache(maxsize=1)
 def proved_in(log, size):
-    """The crates that `rt ci` has told in its log, of this size now, to be proved, in this run or an earlier one, and whether it has ended."""
+    """The crates that `rt ci` has told in its log, of this size now, to be proved, in this run or an earlier one, and whether it
+    has ended."""
     with open(log, errors='replace') as file:
         told = file.read(size)
     return set(PROVED.findall(told)), re.search(r'^\d+ passed, \d+ failed$', told, re.M) is not None

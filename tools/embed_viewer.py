@@ -10,7 +10,8 @@ import sys
 
 ROOT = pathlib.Path(__file__).resolve().parent.parent
 SOURCES = ROOT / "crates" / "hub_page" / "src" / "viewer"
-FILES = ["head.html", "style.css", "body.html", "story.html", "scripts.html", "data.js", "view.js", "paint.js", "panel.js", "main.js", "end.html"]
+FILES = ["head.html", "style.css", "body.html", "story.html", "scripts.html", "data.js", "view.js", "paint.js", "panel.js",
+         "main.js", "end.html"]
 
 
 MOST = 9000  # so many bytes a constant has at most: the prover takes no longer ones

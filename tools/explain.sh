@@ -10,14 +10,14 @@ usage: explain.sh SCENARIO [FROM [TO]]
        explain.sh JOURNAL [FROM [TO]]
        explain.sh --after CHAPTER JOURNAL [FROM [TO]]
 
-Takes a journal, which is a file that begins with `chanhub journal `, or runs a scenario to get one. Writes its page, and the story
-and the picture of all its steps, of step FROM, or of steps FROM to TO. Prints the paths of the story, the picture and the page, and
-opens the page. A run that stalls is explained too. All of more than 300 steps are not drawn in a picture: the page's strip shows
-them, and this is said.
+Takes a journal, which is a file that begins with `chanhub journal `, or runs a scenario to get one. Writes its page, and the
+story and the picture of all its steps, of step FROM, or of steps FROM to TO. Prints the paths of the story, the picture and the
+page, and opens the page. A run that stalls is explained too. All of more than 300 steps get no picture, which is said: the page's
+strip shows them.
 With --every, the journal is a run of the scenario that stalls, and what `chanhub_tool explore` says is printed first.
 If no run stalls, that is all, with status 0; if there are too many states, likewise, with status 5.
-With --after, the journal is a chapter of a hub that never ends, and CHAPTER is the one before. Where its checkpoint ends is printed
-first: the program made the steps behind that one.
+With --after, the journal is a chapter of a hub that never ends, and CHAPTER is the one before. Where its checkpoint ends is
+printed first: the program made the steps behind that one.
 The command in OPENER opens the page, or xdg-open if OPENER is not set. If there is no such command, or xdg-open finds no viewer,
 nothing is opened.
 END

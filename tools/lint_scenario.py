@@ -3,12 +3,12 @@
 
     lint_scenario.py FILE
 
-Prints a line for each fault, `FILE:LINE:COLUMN: what is wrong`, by place: of its TOML the first, and else all of its keys, numbers and
-steps. Lines and columns are counted from 1, columns in characters. Status 0 where there is none, which is where `chanhub run` takes the
-file; 1 where there are faults; 2 where the file cannot be read, or other words are given.
+Prints a line for each fault, `FILE:LINE:COLUMN: what is wrong`, by place: of its TOML the first, and else all of its keys,
+numbers and steps. Lines and columns are counted from 1, columns in characters. Status 0 where there is none, which is where
+`chanhub run` takes the file; 1 where there are faults; 2 where the file cannot be read, or other words are given.
 
-Python's `tomllib` says what is wrong with the TOML. Scenarios are TOML 1.1 and it reads 1.0, so it does not see what only 1.1 has.
-docs/FORMATS.md has the rules of a scenario.
+Python's `tomllib` says what is wrong with the TOML. Scenarios are TOML 1.1 and it reads 1.0, so it does not see what only 1.1
+has. docs/FORMATS.md has the rules of a scenario.
 """
 import re
 import sys
@@ -51,7 +51,8 @@ class Fault(Exception):
 
 
 class Value:
-    """What stands at a key or in an array. `places` has, of a string, where each of its characters stands in the file, and its end."""
+    """What stands at a key or in an array. `places` has, of a string, where each of its characters stands in the file, and its
+    end."""
 
     def __init__(self, data, at, places=()):
         self.data = data
@@ -73,7 +74,8 @@ def hide(escape):
 
 
 def as_older(text):
-    """The text, as long, without what only TOML 1.1 has: two escapes; and in tables in braces newlines, comments and a last comma."""
+    """The text, as long, without what only TOML 1.1 has: two escapes; and in tables in braces newlines, comments and a last
+    comma."""
     pieces, inside, last = [], [], ''
     for token in TOKEN.finditer(text):
         piece, is_in_braces = token[0], inside[-1:] == ['{']

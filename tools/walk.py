@@ -1,4 +1,5 @@
-"""A walk over a journal by model.py: what becomes of each entry, which value it moved and to whom, and what ports carried by then."""
+"""A walk over a journal by model.py: what becomes of each entry, which value it moved and to whom, and what ports carried by
+then."""
 import collections
 
 import model
@@ -6,8 +7,9 @@ import model
 NOBODY = -1  # the clock of a journal that has none
 
 Move = collections.namedtuple("Move", "side port value")
-# A case of a call that waits: who sent and who received there last, if anybody did; whether all have exited who received there since it
-# was opened last, if the case is a send; and the process for which it perhaps waits, as docs/EXPLAIN.md says it, or None.
+# A case of a call that waits: who sent and who received there last, if anybody did; whether all have exited who received there
+# since it was opened last, if the case is a send; and the process for which it perhaps waits, as docs/EXPLAIN.md says it, or
+# None.
 Wait = collections.namedtuple("Wait", "entry side port sender receiver is_left whom")
 
 
@@ -22,7 +24,7 @@ class Entry:
         self.word, self.asked = model.step(fields[1:])
         self.cases = self.asked[0] if self.word == "call" else ()
         self.end = self.by = None  # the words of the event that ended it, and the place of the entry by which it ended
-        self.move = self.partner = None  # the value that it put into a port or took from it, and the entry at the other end of its way
+        self.move = self.partner = None  # the value that it put into a port or took from one, and the entry at its other end
 
     @property
     def fired(self):
@@ -58,7 +60,7 @@ class Port:
         self.receivers = set()  # since it was opened last
         self.sent = self.received = 0
         self.most, self.fullest = 0, None  # how many values were in it at most after a step, and the place of the first such step
-        self.lone = collections.deque()  # what moved values of which only one of both ends is told yet; a receiver may be told first
+        self.lone = collections.deque()  # what moved values of which only one end is told yet; a receiver may be told first
 
     @property
     def count(self):
@@ -140,8 +142,9 @@ class Walk:
             port.opener, port.closer, port.receivers, port.room = entry, None, set(), max(port.room, room)
 
     def waits(self, entries):
-        """Each case of these calls, which wait at once. One that receives perhaps waits for who sent there last, or else for who received
-        there last, and one that sends the other way round: for the first of both who waits too, and not on the same side of the port."""
+        """Each case of these calls, which wait at once. One that receives perhaps waits for who sent there last, or else for who
+        received there last, and one that sends the other way round: for the first of both who waits too, and not on the same side
+        of the port."""
         offers = {entry.pid: {case[:2] for case in entry.cases} for entry in entries}
         for entry in entries:
             for side, number in (case[:2] for case in entry.cases):
@@ -171,8 +174,8 @@ class Journal(Walk):
 
 
 def clock_of(lines):
-    """The clock, which from edition 2 on may be the last of several processes. It receives on port 0, and else only cancels and exits. It
-    makes the first step, or more than one besides its exit."""
+    """The clock, which from edition 2 on may be the last of several processes. It receives on port 0, and else only cancels and
+    exits. It makes the first step, or more than one besides its exit."""
     head, procs, *lines = lines
     clock = int(procs.split()[1]) - 1
     own = [line.split()[1:] for line in lines if line.startswith(f"{clock} ")]

@@ -1,7 +1,8 @@
 #!/usr/bin/env python3
-"""arguments.py PROGRAM TOOL: tries words that are no UTF-8 on the built chanhub (PROGRAM) and chanhub_tool (TOOL), beside the words
-that each knows: they are bad arguments, and nothing is read or written for them; chanhub_tool says what is wrong. The bytes of a program's own name are no
-argument: under a name that is no UTF-8 it does the same. The last line counts: 'N passed, M failed'."""
+"""arguments.py PROGRAM TOOL: tries words that are no UTF-8 on the built chanhub (PROGRAM) and chanhub_tool (TOOL), beside the
+words that each knows: they are bad arguments, and nothing is read or written for them; chanhub_tool says what is wrong. The bytes
+of a program's own name are no argument: under a name that is no UTF-8 it does the same. The last line counts: 'N passed, M
+failed'."""
 import os
 import sys
 import tempfile

@@ -1,6 +1,6 @@
 #!/usr/bin/env python3
-"""converse.py PROGRAM TOOL: converses with the built chanhub_tool (TOOL), by `serve`, over the examples, random journals and faulty
-ones, and compares what it says with what `chanhub replay` (PROGRAM) says of the same journal: line by line, in pieces of
+"""converse.py PROGRAM TOOL: converses with the built chanhub_tool (TOOL), by `serve`, over the examples, random journals and
+faulty ones, and compares what it says with what `chanhub replay` (PROGRAM) says of the same journal: line by line, in pieces of
 lines, and several lines at a time. The last line counts: 'N passed, M failed'."""
 import os
 import random
@@ -17,7 +17,8 @@ class Conversation:
     """A `chanhub_tool serve` that is spoken with."""
 
     def __init__(self, program):
-        self.process = subprocess.Popen([program, "serve"], stdin=subprocess.PIPE, stdout=subprocess.PIPE, stderr=subprocess.PIPE, bufsize=0)
+        pipes = dict.fromkeys(("stdin", "stdout", "stderr"), subprocess.PIPE)
+        self.process = subprocess.Popen([program, "serve"], **pipes, bufsize=0)
 
     def say(self, piece):
         try:

@@ -3,10 +3,10 @@
 behind each cut with what it tells there of the journal that was not cut.
 
 Such a journal has selects, closes, faults and stalls, in the later editions cancels, and in the third starts and reopens
-(random_journal.py). At a cut the journal goes on from a checkpoint, which is made here from what model.py says of the state, and no
-definition is read: the ports in order, each made, filled and closed; the exits by number; the open calls in order of arrival. A
-journal is cut one to three times, each time in the chapter that the last cut began. RUNS journals of the first two editions are cut
-(100), from SEED on (1), and as many of the third. Wrong checkpoints are tried as well, until the comparison notices each. The
+(random_journal.py). At a cut the journal goes on from a checkpoint, which is made here from what model.py says of the state, and
+no definition is read: the ports in order, each made, filled and closed; the exits by number; the open calls in order of arrival.
+A journal is cut one to three times, each time in the chapter that the last cut began. RUNS journals of the first two editions are
+cut (100), from SEED on (1), and as many of the third. Wrong checkpoints are tried as well, until the comparison notices each. The
 chapters of the admitted lines are checked as a chain by the built chanhub_tool (TOOL): all of them, and with each one left out,
 which is whole only where the states on both sides have one checkpoint. The last line counts: 'N passed, M failed'.
 """

@@ -1,7 +1,7 @@
 #!/usr/bin/env python3
-"""examples.py PROGRAM: runs the built chanhub (PROGRAM) on the journals and scenarios of examples/, on scenarios of 64 processes, and on
-random journals beside the events that model.py makes of them; and counts how often the pool stalls that can. The last line counts:
-'N passed, M failed'."""
+"""examples.py PROGRAM: runs the built chanhub (PROGRAM) on the journals and scenarios of examples/, on scenarios of 64 processes,
+and on random journals beside the events that model.py makes of them; and counts how often the pool stalls that can. The last line
+counts: 'N passed, M failed'."""
 import os
 import pathlib
 import re
@@ -58,7 +58,8 @@ class Examples(Count):
             self.scenario(path.stem, path.with_suffix(''), path.read_bytes())
 
     def many_processes(self):
-        """Each sends on a port without a buffer, and nobody receives; each sends to a port with a place and receives from the next."""
+        """Each sends on a port without a buffer, and nobody receives; each sends to a port with a place and receives from the
+        next."""
         for name, room, steps, end in (
             ('stalled', 0, '"send {0} {0}"', 'sent 0 received 0 left 0 sum 0 open\n'),
             ('ring', 1, '"send {0} {0}", "recv {1}"', 'sent 1 received 1 left 0 sum {0} open\n'),

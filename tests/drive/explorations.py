@@ -1,12 +1,13 @@
 #!/usr/bin/env python3
-"""explorations.py PROGRAM TOOL [RUNS [SEED]]: has the built chanhub_tool (TOOL) go through all schedules of random scenarios, and of the
-examples, for each thing that can be asked, and compares what it says with the search of explore.py, which shares no code with the proofs.
+"""explorations.py PROGRAM TOOL [RUNS [SEED]]: has the built chanhub_tool (TOOL) go through all schedules of random scenarios, and
+of the examples, for each thing that can be asked, and compares what it says with the search of explore.py, which shares no code
+with the proofs.
 
-A scenario has two to four processes of up to four steps, and up to three ports. Where a run does what is asked for, the journal that the
-tool writes is as short as the search's shortest; each of its lines is the next one of its process, and the last alone does it, by model.py.
-What none does, so many runs by threads (THREADS), by the built chanhub (PROGRAM), do not do either. RUNS scenarios are tried (60), from
-SEED on (1). Among so many each thing is found for some, and for some not. And a search that takes seconds shows how far it has
-come, on a terminal alone. The last line counts: 'N passed, M failed'.
+A scenario has two to four processes of up to four steps, and up to three ports. Where a run does what is asked for, the journal
+that the tool writes is as short as the search's shortest; each of its lines is the next one of its process, and the last alone
+does it, by model.py. What none does, so many runs by threads (THREADS), by the built chanhub (PROGRAM), do not do either. RUNS
+scenarios are tried (60), from SEED on (1). Among so many each thing is found for some, and for some not. And a search that takes
+seconds shows how far it has come, on a terminal alone. The last line counts: 'N passed, M failed'.
 """
 import collections
 import os

@@ -1,6 +1,6 @@
 #!/usr/bin/env python3
-"""from_sources.py PROGRAM: whether ./chanhub in a tree where nothing is built does what the built chanhub (PROGRAM) does, but for its own
-lines on standard error. The last line counts: 'N passed, M failed'."""
+"""from_sources.py PROGRAM: whether ./chanhub in a tree where nothing is built does what the built chanhub (PROGRAM) does, but for
+its own lines on standard error. The last line counts: 'N passed, M failed'."""
 import os
 import pathlib
 import re

@@ -88,8 +88,8 @@ def refused(fault):
 
 
 def count_checks(parts, *words):
-    """Makes the checks of each part, which is given these words and a folder, prints those that fail and how many there were, and answers
-    the status."""
+    """Makes the checks of each part, which is given these words and a folder, prints those that fail and how many there were, and
+    answers the status."""
     count = Count()
     with tempfile.TemporaryDirectory() as work:
         for part in parts:

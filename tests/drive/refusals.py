@@ -1,13 +1,13 @@
 #!/usr/bin/env python3
-"""refusals.py [PROGRAM [HUB_TESTS [LIVE_TESTS]]]: has allocations refused, and starts of threads, the first, then the second, and so on
-until a run meets no refusal.
+"""refusals.py [PROGRAM [HUB_TESTS [LIVE_TESTS]]]: has allocations refused, and starts of threads, the first, then the second, and
+so on until a run meets no refusal.
 
-The built chanhub (PROGRAM) replays the examples, compares one, and runs scenarios, for reports and for journals. Each run must print all
-that it prints else, with status 0, or nothing but `chanhub: out of memory` on standard error, with status 1; a journal of several
-processes, which is another one under another schedule, must be replayed, and have the entries of each process in their order. The tests
-of refused memory of hub_tests and hub_live_tests, as `./test` builds them (HUB_TESTS, LIVE_TESTS), must pass, with the allocations after
-their mark refused so; a run of steps tells at which it was refused memory, and those that take none pass with all of them refused.
-It needs a C compiler (CC, or cc). The last line counts: 'N passed, M failed'.
+The built chanhub (PROGRAM) replays the examples, compares one, and runs scenarios, for reports and for journals. Each run must
+print all that it prints else, with status 0, or nothing but `chanhub: out of memory` on standard error, with status 1; a journal
+of several processes, which is another one under another schedule, must be replayed, and have the entries of each process in their
+order. The tests of refused memory of hub_tests and hub_live_tests, as `./test` builds them (HUB_TESTS, LIVE_TESTS), must pass,
+with the allocations after their mark refused so; a run of steps tells at which it was refused memory, and those that take none
+pass with all of them refused. It needs a C compiler (CC, or cc). The last line counts: 'N passed, M failed'.
 """
 import functools
 import os

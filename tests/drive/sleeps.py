@@ -1,6 +1,6 @@
 #!/usr/bin/env python3
-"""sleeps.py [PROGRAM]: runs scenarios by the built program in which a thread waits for a second, for a value or for the lock of the
-hub, and looks how much of the processor that takes: who waits has to sleep. The last line counts: 'N passed, M failed'."""
+"""sleeps.py [PROGRAM]: runs scenarios by the built program in which a thread waits for a second, for a value or for the lock of
+the hub, and looks how much of the processor that takes: who waits has to sleep. The last line counts: 'N passed, M failed'."""
 import os
 import sys
 import tempfile

@@ -26,8 +26,8 @@ WINDOWED = 50
 MOST_BYTES = 67_108_864
 # the most memory for the story of a journal of so many bytes that has the most entries
 MOST_MEMORY = 1_000_000_000
-# Runs a program and tells its status and the most memory that was resident. A process begins with what the one has that starts it,
-# which here is much; so this small one stands between.
+# Runs a program and tells its status and the most memory that was resident. A process begins with what the one has that starts
+# it, which here is much; so this small one stands between.
 MEASURE = """
 import os, subprocess, sys
 child = subprocess.Popen(sys.argv[1:], stderr=subprocess.DEVNULL)
@@ -196,8 +196,8 @@ def survives_refusals(program, words, journal, refuser):
 
 
 def begins_under_refusals(program, words, journal, refuser):
-    """So does what is written as it goes, but that a beginning of it is written by then, the longer the later memory is refused: at first
-    none, and at last some of it."""
+    """So does what is written as it goes, but that a beginning of it is written by then, the longer the later memory is refused:
+    at first none, and at last some of it."""
     told = program.run(words, journal)
     *done, last = refuser.each([program.path, *words], given=journal)
     begun = [it for it in done if it != told]

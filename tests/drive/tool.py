@@ -1,7 +1,7 @@
 #!/usr/bin/env python3
-"""tool.py TOOL: tries the words of the built chanhub_tool (TOOL) by the rows of tests/tool.toml: steps, files that take the place of
-standard input and output, those that are refused, chains of chapters, runs of scenarios, and help; with each allocation refused too, which needs a C compiler. The last
-line counts: 'N passed, M failed'."""
+"""tool.py TOOL: tries the words of the built chanhub_tool (TOOL) by the rows of tests/tool.toml: steps, files that take the place
+of standard input and output, those that are refused, chains of chapters, runs of scenarios, and help; with each allocation
+refused too, which needs a C compiler. The last line counts: 'N passed, M failed'."""
 import pathlib
 import re
 import subprocess
@@ -83,8 +83,8 @@ def pictures(program, work):
 
 
 def viewers(program, work):
-    """A diagram and a trace of a file, and to a file, are those of standard input to standard output; to a trace a word of digits is a
-    file as well."""
+    """A diagram and a trace of a file, and to a file, are those of standard input to standard output; to a trace a word of digits
+    is a file as well."""
     for command, files in (("mermaid", ["journal", "-", "./7"]), ("trace", ["journal", "-", "7"])):
         folder = Folder(program, work)
         status, text, errors = folder.run([command])

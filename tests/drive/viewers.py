@@ -1,9 +1,10 @@
 #!/usr/bin/env python3
 """viewers.py TOOL: has the built chanhub_tool (TOOL) write sequence diagrams for Mermaid and traces in Chrome's format of the
-examples, of random journals and of long ones, and compares them with a second reading of docs/FORMATS.md, "Diagrams and traces", by the
-events of model.py. Looks at each text by itself too: at the lines of a diagram by Mermaid's grammar, and at the events of a trace by
-the rules of their format. Runs the rows of tests/viewers.toml, which have data of pages too, and all with each allocation refused,
-which needs a C compiler, and pages to files without room for them. Pages are compared further by page_test.py. The last line counts: 'N passed, M failed'."""
+examples, of random journals and of long ones, and compares them with a second reading of docs/FORMATS.md, "Diagrams and traces",
+by the events of model.py. Looks at each text by itself too: at the lines of a diagram by Mermaid's grammar, and at the events of
+a trace by the rules of their format. Runs the rows of tests/viewers.toml, which have data of pages too, and all with each
+allocation refused, which needs a C compiler, and pages to files without room for them. Pages are compared further by
+page_test.py. The last line counts: 'N passed, M failed'."""
 import collections
 import json
 import re
@@ -18,7 +19,8 @@ import story_model
 import walk
 
 MOST_STEPS = 200
-# a page of a million steps takes so many bytes of memory more than the story of one of them at most; its text has thirty times as many
+# a page of a million steps takes so many bytes of memory more than the story of one of them at most; its text has thirty times as
+# many
 MOST_OF_PAGE = 1_000_000
 TOO_LONG = refused("too long for a diagram, which shows 200 steps at most")
 
@@ -259,7 +261,8 @@ def passing(values):
 
 
 def pages_as_they_go(program, _):
-    """A page is written block after block: a write may fail in any of them, and the memory for the page's text is that for a block's."""
+    """A page is written block after block: a write may fail in any of them, and the memory for the page's text is that for a
+    block's."""
     journal = passing(500)
     whole = program.run(["page"], journal)[1]
     data = whole.index(b"chanhub journal 1")

@@ -22,7 +22,8 @@ BEFORE = ["head.html", "style.css", "body.html"]
 BETWEEN = ["story.html"]
 SCRIPTS = ["data.js", "view.js", "paint.js", "panel.js", "main.js"]
 AFTER = ["scripts.html", *SCRIPTS, "end.html"]
-LETTERS = {"make": "m", "send": "s", "recv": "r", "select": "?", "close": "c", "reopen": "o", "cancel": "x", "start": "g", "exit": "e"}
+LETTERS = {"make": "m", "send": "s", "recv": "r", "select": "?", "close": "c", "reopen": "o", "cancel": "x", "start": "g",
+           "exit": "e"}
 BLOCK = 64  # steps
 ENDS = {"sent": "s", "got": "g", "drained": "d", "closed": "c", "default": "D", "done": "k", "stalled": "S", "cancelled": "x"}
 
@@ -55,8 +56,8 @@ class Sketch:
 
 
 class Data:
-    """The data of a journal, line by line, of which those of steps that are not told are empty. Asked for are its first step and the last,
-    and the window has all steps of their blocks, and of those between."""
+    """The data of a journal, line by line, of which those of steps that are not told are empty. Asked for are its first step and
+    the last, and the window has all steps of their blocks, and of those between."""
 
     def __init__(self, lines, write, asked=None):
         count = len(lines) - 2
@@ -92,7 +93,8 @@ class Data:
 
     def line(self, entry, ended):
         pid, word, *more = entry.line.split(" ")
-        asked = pid + LETTERS[word] + (":" if word in ("send", "reopen") else "").join("!" if part == "default" else part for part in more)
+        parts = ("!" if part == "default" else part for part in more)
+        asked = pid + LETTERS[word] + (":" if word in ("send", "reopen") else "").join(parts)
         self.sketch.asked[self.lane(entry)] += 1
         if word in ("make", "reopen", "start", "exit"):
             self.told.add(entry.place)
@@ -124,13 +126,15 @@ class Data:
         return f"{text}{sender};{entry.move.port}:{self.walk.ports[entry.move.port].count}"
 
     def tell_way(self, entry):
-        """A step sent what another one received: if one of them is in the window, the other one is told, and by which steps they ended."""
+        """A step sent what another one received: if one of them is in the window, the other one is told, and by which steps they
+        ended."""
         both = [entry, entry.partner] if entry.partner else []
         if any(one.place in self.window for one in both):
             self.told |= {place for one in both for place in (one.place, one.by)}
 
     def stalls(self, place, stalled):
-        """Who was there last, of a send whether all who received there have exited, and for whom each of these calls perhaps waits."""
+        """Who was there last, of a send whether all who received there have exited, and for whom each of these calls perhaps
+        waits."""
         for wait in self.walk.waits(stalled):
             movers = ("" if mover is None else str(place - mover.place) for mover in (wait.sender, wait.receiver))
             yield f";{wait.port}L{','.join(movers)}" + ("!" if wait.is_left else "")

@@ -58,7 +58,8 @@ class Story:
             yield f"          P{entry.pid} waits since step {entry.place + 1}"
             for wait in self.walk.waits([entry]):
                 what = "send on" if wait.side == "s" else "receive from"
-                sender, receiver = (f"P{mover.pid} at step {mover.place + 1}" if mover else "nobody" for mover in (wait.sender, wait.receiver))
+                sender, receiver = (
+                    f"P{mover.pid} at step {mover.place + 1}" if mover else "nobody" for mover in (wait.sender, wait.receiver))
                 gone = "; all who received there have left" if wait.is_left else ""
                 yield f"            to {what} port {wait.port}: last sent by {sender}, last received by {receiver}{gone}"
 

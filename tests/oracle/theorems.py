@@ -1,6 +1,7 @@
 """The worked journals that stand as theorems beside the definitions, `events HEAD STEPS ≡ EVENTS`, as texts of steps and events.
 
-They are read word for word by the notation of hub_base/specs/Notation.antt, so that a row of tests/ can be compared with its theorem.
+They are read word for word by the notation of hub_base/specs/Notation.antt, so that a row of tests/ can be compared with its
+theorem.
 """
 import functools
 import os

@@ -1,7 +1,7 @@
 #!/usr/bin/env python3
-"""answer.py PROGRAM WORDS..: runs a program of this repository, for ../chanhub, with these words and standard streams, and ends as it
-does. Behind the program's fault line it says in one more line what helps: which word, file or line is wrong. A signal to this script
-reaches the program.
+"""answer.py PROGRAM WORDS..: runs a program of this repository, for ../chanhub, with these words and standard streams, and ends
+as it does. Behind the program's fault line it says in one more line what helps: which word, file or line is wrong. A signal to
+this script reaches the program.
 """
 import fcntl
 import os

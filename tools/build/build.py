@@ -3,12 +3,13 @@
 
     build.py CRATE..
 
-What is current, as `current.py` says, is left as it is. The rest is proved from nothing: each crate as soon as those below it are built, as many side by side as there are processors and memory. The crate with the longest
-chain behind it has the processors to itself, and the others take what it leaves idle. A library keeps its statements alone, and no
-check keeps anything for the next one, which is quicker than `rt lib` and `rt run`; the price is that after an edit a crate is
-proved whole, with all crates above it.
-Prints a line for each crate that is built, with how many are left and how long they may take, all that was said of one that is not, and
-for which other build it waits; status 0 where all are built. Ctrl-C or a kill ends the checks too; what is built by then stays, and the next build goes on from there.
+What is current, as `current.py` says, is left as it is. The rest is proved from nothing: each crate as soon as those below it are
+built, as many side by side as there are processors and memory. The crate with the longest chain behind it has the processors to
+itself, and the others take what it leaves idle. A library keeps its statements alone, and no check keeps anything for the next
+one, which is quicker than `rt lib` and `rt run`; the price is that after an edit a crate is proved whole, with all crates above
+it. Prints a line for each crate that is built, with how many are left and how long they may take, all that was said of one that
+is not, and for which other build it waits; status 0 where all are built. Ctrl-C or a kill ends the checks too; what is built by
+then stays, and the next build goes on from there.
 """
 import fcntl
 import math
@@ -73,7 +74,8 @@ class Clock:
         return f'{self.took[crate]:.0f} s; {self.left()}'
 
     def left(self):
-        """How many crates are left, and how many minutes: by the longest chain of them, or by all of them, whichever takes longer."""
+        """How many crates are left, and how many minutes: by the longest chain of them, or by all of them, whichever takes
+        longer."""
         now = time.monotonic()
         waiting = self.lengths.keys() - self.took.keys()
         if not waiting:

@@ -13,8 +13,8 @@ def folder(tree, crate):
 
 @functools.lru_cache
 def read_heads():
-    """Each crate's words before the colon, its name and what it is, with the libraries that it names; all as they stood when this was
-    first called, so that one script goes by one list."""
+    """Each crate's words before the colon, its name and what it is, with the libraries that it names; all as they stood when this
+    was first called, so that one script goes by one list."""
     with open(LIST) as file:
         parts = [line.partition('#')[0].partition(':') for line in file]
     return [(head.split(), libraries.split()) for head, colon, libraries in parts if colon]

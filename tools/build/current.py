@@ -6,7 +6,8 @@
 
 A crate is current where it is as new as its sources and as what it stands on, whoever built it, and was built by the line that
 crates.txt has for it now. So a line that changes makes its own crate stale, with those above it, and no other. Builds nothing.
-Where all is current it leaves the file out/checked of the crate, as old as the check: while no file has changed since, all still is.
+Where all is current it leaves the file out/checked of the crate, as old as the check: while no file has changed since, all still
+is.
 """
 import contextlib
 import os
@@ -39,7 +40,8 @@ def time_of(path):
 
 
 def note_of(crate):
-    """Where the line stands that the crate was built by, and below it the time of what was built then, which is what it speaks of."""
+    """Where the line stands that the crate was built by, and below it the time of what was built then, which is what it speaks
+    of."""
     return os.path.join(folder(ROOT, crate), 'out', 'built_by')
 
 
@@ -56,8 +58,8 @@ def write(path, text, when):
 
 
 def is_by_its_line(crate):
-    """Whether what is built was built by the crate's line of today. `rt` leaves no note of it: what it built counts where crates.txt is
-    not newer, and has a note from then on."""
+    """Whether what is built was built by the crate's line of today. `rt` leaves no note of it: what it built counts where
+    crates.txt is not newer, and has a note from then on."""
     time = time_of(output(crate))
     try:
         with open(note_of(crate)) as file:

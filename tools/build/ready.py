@@ -4,9 +4,9 @@
     ready.py PROGRAM                    prints its path
     ready.py --run PROGRAM WORDS..      runs it with these words, as `answer.py` does
 
-That is the built program where it is current, as `current.py` says. Else `rt try` compiles one in about a minute, with checks as it
-runs and without a proof; it stays until a source changes, and a line on standard error says what it is. Where `rt try` makes none,
-the program is proved and built. Status 125 where there is none in the end.
+That is the built program where it is current, as `current.py` says. Else `rt try` compiles one in about a minute, with checks as
+it runs and without a proof; it stays until a source changes, and a line on standard error says what it is. Where `rt try` makes
+none, the program is proved and built. Status 125 where there is none in the end.
 """
 import array
 import fcntl
@@ -61,8 +61,8 @@ def has_begun(gate, child):
 
 
 def compile_unproved(crate, room, log):
-    """The program, which `rt try` does not keep: it is given a pipe to read, and is copied while it waits. None, and the status of `rt try`,
-    where that made none."""
+    """The program, which `rt try` does not keep: it is given a pipe to read, and is copied while it waits. None, and the status
+    of `rt try`, where that made none."""
     gate = os.path.join(room, 'gate')
     os.mkfifo(gate)
     # Where this script is killed, the program comes to the end of the pipe.

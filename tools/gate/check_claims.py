@@ -1,10 +1,10 @@
 """Compares docs/CLAIMS.md and docs/SEMANTICS.md with the sources, for check_pages.py, and proves nothing.
 
-Tells what a page says in code, and the sources do not have: names; definitions, behind their files, as in `Steps`: `turn`; in a link to
-a source what does not stand there; and in CLAIMS, in brackets, clauses that the calls before them lack, as in `run` (`ok`).
-Each crate has a section of CLAIMS, or is one of those that these do not cover. Of the crates with a section tells the public calls
-without a doc comment, the edits whose line `call:` names none of them, and the public functions that no edit turns: but for those of the
-list under 'Edits', for laws, which have no body, and for the methods of traits, which have none there.
+Tells what a page says in code, and the sources do not have: names; definitions, behind their files, as in `Steps`: `turn`; in a
+link to a source what does not stand there; and in CLAIMS, in brackets, clauses that the calls before them lack, as in `run`
+(`ok`). Each crate has a section of CLAIMS, or is one of those that these do not cover. Of the crates with a section tells the
+public calls without a doc comment, the edits whose line `call:` names none of them, and the public functions that no edit turns:
+but for those of the list under 'Edits', for laws, which have no body, and for the methods of traits, which have none there.
 """
 import functools
 import os

@@ -20,8 +20,8 @@
     words      pages have few words
     edits      README says how many edits the gate tries
 
-Prints a line for each thing that is wrong, and the status is 1 where there is any. With --write the lines of the sources are put into
-quotations first.
+Prints a line for each thing that is wrong, and the status is 1 where there is any. With --write the lines of the sources are put
+into quotations first.
 """
 import glob
 import os

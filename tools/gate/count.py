@@ -1,6 +1,7 @@
 #!/usr/bin/env python3
 """count.py: prints how large the repository is, one count a line."""
 import os
+import re
 import subprocess
 import sys
 
@@ -27,7 +28,7 @@ def main():
         'lines of Rattle': lines_of(path for path in files if path.endswith('.rt')),
         'lines of specs': lines_of(path for path in files if '/specs/' in path and path.endswith('.antt')),
         'lines of proofs': lines_of(path for path in files if '/proofs/' in path and path.endswith('.antt')),
-        'lines of scripts': lines_of(path for path in files if path.startswith(('tools/', 'tests/')) and path.endswith(('.py', '.sh', '.c'))),
+        'lines of scripts': lines_of(path for path in files if re.match(r'(tools|tests)/.*\.(py|sh|c)$', path)),
         'words of pages': sum(map(words_of, pages())),
         'words of README': words_of('README.md'),
         'columns of README': max(map(len, read('README.md').split('\n'))),

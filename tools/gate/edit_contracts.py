@@ -1,7 +1,8 @@
-"""What an edit is judged by: the contracts of the functions that it changes and of those that these call, and the definitions of both.
+"""What an edit is judged by: the contracts of the functions that it changes and of those that these call, and the definitions of
+both.
 
-Which these are is told from names, and rather too many than too few: of all functions of the crate whose name stands in what is changed
-or in what the edit puts there, and of all methods of traits, since these are called without their names."""
+Which these are is told from names, and rather too many than too few: of all functions of the crate whose name stands in what is
+changed or in what the edit puts there, and of all methods of traits, since these are called without their names."""
 import collections
 import functools
 import os

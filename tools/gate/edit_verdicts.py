@@ -1,7 +1,8 @@
 """What the prover's output says of the functions that are not proved: which goals, and why each is not met.
 
-A goal counts as refused where it is shown false, or left open by a search that came to its end. Where a search stopped at a limit, an
-answer's line no longer fits, or a proof names what is gone, the contract may be met all the same: these are kinds of their own.
+A goal counts as refused where it is shown false, or left open by a search that came to its end. Where a search stopped at a
+limit, an answer's line no longer fits, or a proof names what is gone, the contract may be met all the same: these are kinds of
+their own.
 """
 import collections
 import re
@@ -129,7 +130,8 @@ def asked_anew(crate, function, said, goals, text, plain):
 
 
 def asked_lines(said, function):
-    """The lines by which the prover says how to answer the goals of a function that it leaves open: `NAME : goal.NAME`, and `NAME c = ?`."""
+    """The lines by which the prover says how to answer the goals of a function that it leaves open: `NAME : goal.NAME`, and `NAME
+    c = ?`."""
     place = 'proofs/%s/Answers.antt' % function.replace('::', '/')
     lines = []
     inside = False

@@ -13,9 +13,9 @@ from edit_files import read_edits
 RECORD = os.path.join(ROOT, 'tools', 'gate', 'edits_tried.toml')
 HEAD = """# Per crate, when edits were tried last: by `tools/edits.py --further CRATE`, or single ones, CRATE/NAME, which write this. `refused`
 # has a sum for each edit that was refused: of its lines, and all that it is judged by, which is the contracts of the functions
-# that it changes and of those that these call, and the definitions of both. `kinds` is what the last run of all told. `read` is a sum
-# over edits and sources that the compiler has read together. `tools/edits.py --read` fails unless each edit is among those refused;
-# imports, proofs and what bodies do have no sums.
+# that it changes and of those that these call, and the definitions of both. `kinds` is what the last run of all told. `read` is a
+# sum over edits and sources that the compiler has read together. `tools/edits.py --read` fails unless each edit is among those
+# refused; imports, proofs and what bodies do have no sums.
 """
 COLUMNS = 140
 
@@ -102,8 +102,8 @@ def record_read(by_crate):
 
 
 def beside(old, told, there):
-    """The sums of the edits that were refused: of those that are still there and were not tried since, and of those that are told now, of
-    which each sum goes with whether it was."""
+    """The sums of the edits that were refused: of those that are still there and were not tried since, and of those that are told
+    now, of which each sum goes with whether it was."""
     return {it for it in old if it in there and it not in told} | {it for it, is_refused in told.items() if is_refused}
 
 

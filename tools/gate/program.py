@@ -1,9 +1,9 @@
 #!/usr/bin/env python3
 """program.py [PROGRAM [TOOL]]: tries the built programs, the C library, and the pages, by the scripts that are listed here.
 
-Adds what their last lines count; a script that counts nothing counts once, by its status, and status 77 says that it tried nothing for
-what the machine lacks. Prints of each that fails what it said. The last line counts: 'N passed, M failed', and how many were skipped, if
-any. Before it stands once more what failed.
+Adds what their last lines count; a script that counts nothing counts once, by its status, and status 77 says that it tried
+nothing for what the machine lacks. Prints of each that fails what it said. The last line counts: 'N passed, M failed', and how
+many were skipped, if any. Before it stands once more what failed.
 """
 import os
 import subprocess

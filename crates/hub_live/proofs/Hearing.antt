@@ -1,5 +1,6 @@
 -- What waits for a process once the events of a step were heard.
-use Rattle.std.proofs.Common.{◌≡◌, ◌<◌, ◌++◌, ◌∷◌, [], ℕ, List, length, inl, inr, refl, ap, true, false, ◌∙◌, sym, subst, Option, Some, None, arith, append_assoc}
+use Rattle.std.proofs.Common.{◌≡◌, ◌<◌, ◌++◌, ◌∷◌, [], ℕ, List, length, inl, inr, refl, ap, true, false, ◌∙◌, sym, subst}
+use Rattle.std.proofs.Common.{Option, Some, None, arith, append_assoc}
 use Rattle.std.specs.Prelude.{IfSome, slice_set}
 use Rattle.std.proofs.lemmas.Bool.{cases_lt}
 use Rattle.std.proofs.lemmas.List.{append-nil, get_or_past, length-set}

@@ -7,19 +7,17 @@ use Rattle.hub_base.specs.declared.limits.TheConstants.{MOST_PORTS}
 use Rattle.hub_base.specs.declared.value.Port.{Port}
 use Rattle.hub_base.specs.Entry.{Entry}
 use Rattle.hub_story.specs.declared.told.Told.{Told}
-use Rattle.hub_story.specs.Levels.{received_by, sent_by, told_by}
+use Rattle.hub_story.specs.Levels.{AreLevels, count_at, level_after, level_of, received_by, sent_by, told_by}
 use Rattle.hub_story_text.specs.StoryText.{came_by}
 use Rattle.hub_page.specs.declared.block.Block.{Block}
 use Rattle.hub_page.specs.declared.past.Past.{Past}
-use Rattle.hub_page.specs.declared.levels.Levels.{Levels}
+use Rattle.hub_story.specs.declared.levels.Levels.{Levels}
 use Rattle.hub_page.specs.Block.{IsBlock, IsNext, count_of}
 use Rattle.hub_page.specs.Lanes.{asked_at, is_in, is_trouble_in, one_if, troubles_at, waits_at}
-use Rattle.hub_page.specs.Levels.{AreLevels, count_at, level_after, level_of}
 use Rattle.hub_page.specs.ParkedCalls.{AreParked}
 use Rattle.hub_page.specs.Places.{most_over, sum_over}
 use Rattle.hub_page.specs.Ports.{held_at, moves_on}
-use Rattle.hub_page.proofs.Counted.{all-same}
-use Rattle.hub_page.proofs.Sums.{most-is, most-more, most-none, sum-more, sum-none}
+use Rattle.hub_page.proofs.Sums.{all-same, most-is, most-more, most-none, sum-more, sum-none}
 
 -- what a table counts of a lane, with what the step at this place adds
 lane-more : (amount : ℕ → ℕ) (first next place was now more : ℕ) → first ≤ place → next ≡ first → was ≡ sum_over amount first place →

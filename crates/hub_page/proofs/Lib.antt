@@ -1,5 +1,4 @@
 mod Blocks
-mod Counted
 mod Lines
 mod Rests
 mod Sums

@@ -1,6 +1,5 @@
 -- What the steps at some places add up to, with one place more.
-use Rattle.std.proofs.Common.{◌≡◌, ◌≤◌, ◌<◌, ◌+◌, ◌-◌, ℕ, zero, suc, max, Bool, true, false, ◌||◌, cond, List, [], ◌∷◌, ◌++◌, length, take, get_or}
-use Rattle.std.proofs.Common.{refl, ap, ◌∙◌, sym, arith, add-one, append-nil, append_assoc, map, sum}
+use Rattle.std.proofs.Common.{Bool, List, [], add-one, ap, append-nil, append_assoc, arith, cond, false, get_or, length, map, max, refl, replicate, slice_index_or, suc, sum, sym, take, true, zero, ℕ, ◌++◌, ◌+◌, ◌-◌, ◌<◌, ◌||◌, ◌∙◌, ◌∷◌, ◌≡◌, ◌≤◌}
 use Rattle.std.specs.List.{count_by, flat_map, fold, list_any, range_with_len}
 use Rattle.std.proofs.lemmas.Grind.{flat_map-append}
 use Rattle.std.proofs.lemmas.List.Folds.{list_any_more}
@@ -36,6 +35,12 @@ sum-none amount first = ap (λ n. sum (map amount (range_with_len first n))) (no
 
 pub most-none : (amount : ℕ → ℕ) (first : ℕ) → most_over amount first first ≡ 0
 most-none amount first = ap (λ n. fold max 0 (map amount (range_with_len first n))) (no-place first)
+
+-- a table that is the same everywhere
+pub all-same : {A : Type 0} (a : A) (n k : ℕ) → slice_index_or (replicate n a) k a ≡ a
+all-same a zero k = refl
+all-same a (suc n) zero = refl
+all-same a (suc n) (suc k) = all-same a n k
 
 -- ---- texts of places
 range-more : (a n : ℕ) → range_with_len a (suc n) ≡ range_with_len a n ++ (a + n) ∷ []

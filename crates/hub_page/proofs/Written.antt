@@ -1,6 +1,5 @@
 -- Texts that are written one after the other.
-use Rattle.std.proofs.Common.{◌≡◌, ◌∙◌, ◌<◌, ◌≤◌, ◌+◌, ℕ, List, [], ◌++◌, length, drop, get_or, ap, refl, sym}
-use Rattle.std.proofs.Common.{append_assoc, append-nil, add-one, Option, Result, Ok, Err, OnErr, subst}
+use Rattle.std.proofs.Common.{Err, List, Ok, OnErr, Option, Result, [], add-one, ap, append-nil, append_assoc, drop, get_or, length, refl, subst, sym, ℕ, ◌++◌, ◌+◌, ◌<◌, ◌∙◌, ◌≡◌, ◌≤◌}
 use Rattle.std.proofs.lemmas.List.{drop_all}
 use Rattle.std.proofs.Math.Seq.{drop-cons}
 use Rattle.std.specs.Io.KnownBytes.{Appends}

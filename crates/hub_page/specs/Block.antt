@@ -6,11 +6,10 @@ use Rattle.hub_base.specs.declared.value.Pid.{Pid}
 use Rattle.hub_base.specs.declared.value.Port.{Port}
 use Rattle.hub_base.specs.Entry.{Entry}
 use Rattle.hub_story.specs.declared.told.Told.{Told}
-use Rattle.hub_story.specs.Levels.{sent_by, received_by}
+use Rattle.hub_story.specs.Levels.{count_at, level_of, received_by, sent_by}
 use Rattle.hub_page.specs.declared.block.Block.{Block}
 use Rattle.hub_page.specs.declared.past.Past.{Past}
 use Rattle.hub_page.specs.Lanes.{asked_at, is_in, is_trouble_in, one_if, troubles_at, waits_at}
-use Rattle.hub_page.specs.Levels.{count_at, level_of}
 use Rattle.hub_page.specs.ParkedCalls.{call_of}
 use Rattle.hub_page.specs.Places.{sum_over, most_over}
 use Rattle.hub_page.specs.Ports.{held_at, moves_on}

@@ -1,7 +1,6 @@
 -- The data of a page: a line for each step, and behind the lines of each block of steps a sketch of the block. The line says what a step
 -- asks, and behind that what is told by it; it is empty where the page does not tell the step.
-use Rattle.std.specs.Prelude.{ℕ, ◌+◌, ◌-◌, ◌*◌, ◌/◌, min, List, [], ◌++◌, codes, decimal, length, slice_get, if◌then◌else◌}
-use Rattle.std.specs.Prelude.{Option, None, Some}
+use Rattle.std.specs.Prelude.{List, None, Option, Some, [], codes, decimal, if◌then◌else◌, length, min, slice_get, ℕ, ◌*◌, ◌++◌, ◌+◌, ◌-◌, ◌/◌}
 use Rattle.std.specs.List.{flat_map, range_with_len}
 use Rattle.std.specs.Option.{option_map_or}
 use Rattle.hub_base.specs.declared.head.Head.{Head}

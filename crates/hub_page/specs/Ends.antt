@@ -1,10 +1,7 @@
 -- What the line of a step tells of an event that came by it: whose end it is and how that ended, where a value that was received came
 -- from, and how much the port of a value then holds. Other steps are named by how many steps ago they were asked.
-use Rattle.std.specs.Prelude.{ℕ, ◌-◌, List, [], ◌++◌, codes, decimal, Option, None, Some, slice_get, if◌then◌else◌}
-use Rattle.std.specs.Option.{option_map_or}
+use Rattle.std.specs.Prelude.{ℕ, ◌-◌, List, [], ◌++◌, codes, decimal, Option, None, Some, if◌then◌else◌}
 use Rattle.hub_base.specs.declared.value.Port.{Port}
-use Rattle.hub_base.specs.declared.case.Case.{Case}
-use Rattle.hub_base.specs.declared.case.Case.TheVariants.{Send, Recv}
 use Rattle.hub_base.specs.Entry.{Entry}
 use Rattle.hub_base.specs.declared.event.Outcome.{Outcome}
 use Rattle.hub_base.specs.declared.event.Outcome.TheVariants.{Sent, Got, Drained, Closed}
@@ -12,10 +9,13 @@ use Rattle.hub_base.specs.declared.event.What.{What}
 use Rattle.hub_base.specs.declared.event.What.TheVariants as what
 use Rattle.hub_base.specs.Faults.{fault_number}
 use Rattle.hub_laws.specs.Replies.{is_parked}
+use Rattle.hub_parts.specs.declared.side.Side.{Side}
+use Rattle.hub_parts.specs.declared.side.Side.TheVariants.{Send, Recv}
+use Rattle.hub_story.specs.declared.moves.Move.{Move}
 use Rattle.hub_story.specs.declared.told.Told.{Told}
-use Rattle.hub_base.specs.Values.{cases_at}
+use Rattle.hub_story.specs.Moves.{move_of}
 use Rattle.hub_story_text.specs.Partners.{partner_of}
-use Rattle.hub_page.specs.Levels.{level_after}
+use Rattle.hub_story.specs.Levels.{level_after}
 
 abbrev pub outcome_letter : Outcome → List ℕ
 outcome_letter Sent = codes "s"
@@ -43,18 +43,18 @@ from_words place (Some sender) = codes "@" ++ decimal (place - sender)
 abbrev pub level_words : List Entry → List Told → ℕ → Port → List ℕ
 level_words es all place p = codes ";" ++ decimal p.0 ++ codes ":" ++ decimal (level_after es all p place)
 
--- of a case that moved a value
-abbrev pub moved_words : List Entry → List Told → ℕ → ℕ → Case → Outcome → List ℕ
-moved_words es all place asked (Send p v) Sent = level_words es all place p
-moved_words es all place asked (Recv p) (Got v) = from_words place (partner_of es all asked) ++ level_words es all place p
-moved_words es all place asked case outcome = []
+-- the step that sent the value of the call that was asked at the second place, where that received it
+abbrev pub sender_words : List Entry → List Told → ℕ → ℕ → Side → List ℕ
+sender_words es all place asked Send = []
+sender_words es all place asked Recv = from_words place (partner_of es all asked)
 
-abbrev pub value_words : List Entry → List Told → ℕ → ℕ → What → List ℕ
-value_words es all place asked (what.Fired i o) = option_map_or (λ c. moved_words es all place asked c o) (slice_get (cases_at es asked) i) []
-value_words es all place asked other = []
+-- of what moved
+abbrev pub moved_words : List Entry → List Told → ℕ → ℕ → Option Move → List ℕ
+moved_words es all place asked None = []
+moved_words es all place asked (Some m) = sender_words es all place asked m.side ++ level_words es all place m.port
 
 -- of an event that came by the step at this place; a call that is parked has not ended
 abbrev pub told_words : List Entry → List Told → ℕ → Told → List ℕ
 told_words es all place t =
     if is_parked t.event.what then []
-    else codes ";" ++ decimal (place - t.asked) ++ end_words t.event.what ++ value_words es all place t.asked t.event.what
+    else codes ";" ++ decimal (place - t.asked) ++ end_words t.event.what ++ moved_words es all place t.asked (move_of es t)

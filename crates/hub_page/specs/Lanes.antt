@@ -1,7 +1,6 @@
 -- What a lane asks, is told and waits, step by step. A lane is a process's number; the number of processes stands for all processes
 -- that there are not.
-use Rattle.std.specs.Prelude.{ℕ, ◌+◌, ◌==◌, ◌&&◌, not, min, Bool, true, false, List, count_by, filter, slice_get}
-use Rattle.std.specs.Prelude.{Option, None, Some, is_some, if◌then◌else◌}
+use Rattle.std.specs.Prelude.{Bool, List, None, Option, Some, count_by, false, filter, if◌then◌else◌, is_some, min, not, slice_get, true, ℕ, ◌&&◌, ◌+◌, ◌==◌}
 use Rattle.std.specs.List.{last_or}
 use Rattle.std.specs.Option.{option_map_or}
 use Rattle.hub_base.specs.declared.value.Pid.{Pid}

@@ -1,5 +1,4 @@
 pub mod Entries
-pub mod Levels
 pub mod Ends
 pub mod Stalls
 pub mod Known

@@ -1,15 +1,14 @@
 -- What is known of all steps before a place.
 use Rattle.std.specs.Prelude.{◌≡◌, ℕ, List, ◌++◌}
 use Rattle.hub_story.specs.declared.told.Told.{Told}
-use Rattle.hub_story.specs.Levels.{told_by}
+use Rattle.hub_story.specs.Levels.{AreLevels, told_by}
 use Rattle.hub_story.specs.Stories.{IsFrom}
-use Rattle.hub_story_text.specs.LastMoves as moves
-use Rattle.hub_story_text.specs.LastMoves.{AreLast}
+use Rattle.hub_story.specs.LastMoves as moves
+use Rattle.hub_story.specs.LastMoves.{AreLast}
 use Rattle.hub_page.specs.declared.known.Known.{Known}
 use Rattle.hub_page.specs.declared.past.Past.{Past}
 use Rattle.hub_page.specs.Known.{entries_of, procs_of, told_of}
-use Rattle.hub_page.specs.Levels.{AreLevels}
-use Rattle.hub_page.specs.Levels as tables
+use Rattle.hub_story.specs.Levels as tables
 use Rattle.hub_page.specs.ParkedCalls.{AreParked}
 use Rattle.hub_page.specs.ParkedCalls as calls
 

@@ -1,26 +1,26 @@
 -- What the line of a step tells of those whom it stalled: for each case of each of their calls the steps that moved values there last,
 -- of a send whether all who received there have left, and for whom the call perhaps waits. Other steps are named by how many steps ago
 -- they were asked.
-use Rattle.std.specs.Prelude.{ℕ, ◌+◌, ◌-◌, ◌==◌, ◌&&◌, not, Bool, true, false, List, [], ◌++◌, codes, decimal, Option, None, Some, if◌then◌else◌}
-use Rattle.std.specs.List.{flat_map, list_any}
-use Rattle.std.specs.Option.{option_or}
+use Rattle.std.specs.Prelude.{ℕ, ◌+◌, ◌-◌, Bool, true, List, [], ◌++◌, codes, decimal, Option, None, Some}
+use Rattle.std.specs.List.{flat_map}
 use Rattle.hub_base.specs.declared.case.Case.{Case}
-use Rattle.hub_base.specs.declared.case.Case.TheVariants.{Send, Recv}
+use Rattle.hub_base.specs.declared.case.Case.TheVariants.{Send}
 use Rattle.hub_base.specs.Entry.{Entry}
 use Rattle.hub_base.specs.Ready.{port_of}
 use Rattle.hub_story.specs.declared.told.Told.{Told}
 use Rattle.hub_story.specs.Levels.{told_by}
 use Rattle.hub_base.specs.Values.{cases_at}
-use Rattle.hub_story_text.specs.declared.last_moves.AtPort.{AtPort}
-use Rattle.hub_story_text.specs.declared.last_moves.Mover.{Mover}
-use Rattle.hub_story_text.specs.LastMoves.{AreLast, known_of}
+use Rattle.hub_story.specs.declared.last_moves.AtPort.{AtPort}
+use Rattle.hub_story.specs.declared.last_moves.Mover.{Mover}
+use Rattle.hub_story.specs.LastMoves.{AreLast, known_of}
+use Rattle.hub_story.specs.Whom.{whom}
 use Rattle.hub_page.specs.declared.stalls.Stall.{Stall}
 use Rattle.hub_page.specs.Known.{entries_of, told_of}
 
 -- ---- who was there last
 abbrev pub back_words : ℕ → Option Mover → List ℕ
 back_words place None = []
-back_words place (Some m) = decimal (place - m.step)
+back_words place (Some m) = decimal (place - m.asked)
 
 -- a sign, where the case sends, and all who received there have left
 abbrev pub gone_sign : Case → Bool → List ℕ
@@ -32,36 +32,7 @@ last_words place c there =
     codes ";" ++ decimal (port_of c).0 ++ codes "L" ++ back_words place there.sender ++ codes "," ++ back_words place there.receiver
     ++ gone_sign c there.gone
 
--- ---- who perhaps waits for whom
--- both send on one port, or both receive from it
-abbrev pub is_beside : Case → Case → Bool
-is_beside (Recv p) (Recv q) = p.0 == q.0
-is_beside (Send p v) (Send q u) = p.0 == q.0
-is_beside c d = false
-
--- the call is of this process
-abbrev pub is_of : ℕ → Told → Bool
-is_of pid t = t.event.pid.0 == pid
-
--- and waits beside that case
-abbrev pub waits_beside : List Entry → Case → ℕ → Told → Bool
-waits_beside es c pid t = is_of pid t && list_any (is_beside c) (cases_at es t.asked)
-
--- the process was stalled too, is not the one that waits, and does not wait beside it
-abbrev pub can_help : List Entry → List Told → Told → Case → ℕ → Bool
-can_help es stalled own c pid = not (is_of pid own) && list_any (is_of pid) stalled && not (list_any (waits_beside es c pid) stalled)
-
-abbrev pub helper : List Entry → List Told → Told → Case → Option Mover → Option ℕ
-helper es stalled own c None = None
-helper es stalled own c (Some m) = if can_help es stalled own c m.pid.0 then Some m.pid.0 else None
-
--- a receive perhaps waits for the last who sent there, or else for the last who received; a send the other way round
-abbrev pub whom : List Entry → List Told → Told → Option Mover → Option Mover → Case → Option ℕ
-whom es stalled own sender receiver (Recv p) =
-    option_or (helper es stalled own (Recv p) sender) (helper es stalled own (Recv p) receiver)
-whom es stalled own sender receiver (Send p v) =
-    option_or (helper es stalled own (Send p v) receiver) (helper es stalled own (Send p v) sender)
-
+-- ---- for whom it perhaps waits
 abbrev pub whom_words : Told → Option ℕ → List ℕ
 whom_words own None = []
 whom_words own (Some pid) = codes ";" ++ decimal own.event.pid.0 ++ codes ">" ++ decimal pid
@@ -69,7 +40,7 @@ whom_words own (Some pid) = codes ";" ++ decimal own.event.pid.0 ++ codes ">" ++
 -- ---- all
 -- of a case where this is known of its port
 abbrev pub case_words : List Entry → ℕ → List Told → Told → AtPort → Case → List ℕ
-case_words es place stalled own there c = last_words place c there ++ whom_words own (whom es stalled own there.sender there.receiver c)
+case_words es place stalled own there c = last_words place c there ++ whom_words own (whom es stalled own there c)
 
 -- by what is told until then
 abbrev pub waiting_words : List Entry → List Told → ℕ → List Told → Told → Case → List ℕ

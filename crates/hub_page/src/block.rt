@@ -5,14 +5,13 @@ ghost use Rattle.hub_page.specs.Block.{IsBlock, IsNext, IsWhole};
 ghost use Rattle.hub_page.specs.Known.{entries_of, procs_of, told_of};
 ghost use Rattle.hub_page.specs.Past.{IsPast};
 
-use crate::counts::count_one;
 use crate::known::Known;
 use crate::lanes::{count_troubles, count_waits, lane_of};
 use crate::past::Past;
 use crate::ports::{none_held, note_held};
 use hub_base::{MOST_PORTS, Pid};
 use hub_core::ShortEntries;
-use hub_story::Told;
+use hub_story::{Told, count_one};
 use std::alloc::{AllocError, Global};
 
 /// Tables of lanes and of ports, by their numbers.

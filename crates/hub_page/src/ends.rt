@@ -2,16 +2,16 @@
 
 ghost use Rattle.std.specs.Prelude.{◌≡◌, ◌<◌, ◌+◌, ◌++◌, length, OnOk};
 ghost use Rattle.std.specs.List.{flat_map};
-ghost use Rattle.hub_story.specs.Levels.{told_by};
-ghost use Rattle.hub_page.specs.Ends.{end_words, from_words, level_words, moved_words, outcome_letter, told_words, value_words};
+ghost use Rattle.hub_story.specs.Levels.{AreLevels, told_by};
+ghost use Rattle.hub_story.specs.Moves.{move_of};
+ghost use Rattle.hub_page.specs.Ends.{end_words, from_words, level_words, moved_words, outcome_letter, sender_words, told_words};
 ghost use Rattle.hub_page.specs.Known.{IsKnown, entries_of, told_of};
-ghost use Rattle.hub_page.specs.Levels.{AreLevels};
 
 use crate::known::Known;
-use crate::levels::Levels;
 use crate::number::put_number;
-use hub_base::{Case, Outcome, Port, What};
-use hub_story::Told;
+use hub_base::{Outcome, Port, What};
+use hub_parts::Side;
+use hub_story::{Levels, Move, Told, move_of};
 use std::alloc::AllocError;
 
 /// The letter of an outcome.
@@ -43,12 +43,31 @@ fn put_end(out: &mut Vec<u8>, what: What) -> Result<(), AllocError>
 }
 
 /// Appends from which step a value came that was received by the step at this place.
-fn put_sender(out: &mut Vec<u8>, place: u32, sender: Option<u32>) -> Result<(), AllocError>
+fn put_from(out: &mut Vec<u8>, place: u32, sender: Option<u32>) -> Result<(), AllocError>
     ensures { OnOk result (out.new.items ≡ out.old.items ++ from_words place sender) }
 {
     match sender {
         Some(sender) => put_number(out, b"@", place.saturating_sub(sender).into()),
         None => Ok(()),
+    }
+}
+
+/// Appends it, where the value of the call that was asked at the other place moved on this side.
+fn put_sender(
+    out: &mut Vec<u8>,
+    known: &Known<'_>,
+    place: u32,
+    asked: u32,
+    side: Side,
+) -> Result<(), AllocError>
+    requires known { IsKnown known.now }
+    requires within { asked < length (entries_of known.now) }
+    ensures { OnOk result (out.new.items ≡ out.old.items
+        ++ sender_words (entries_of known.now) (told_of known.now) place asked side) }
+{
+    match side {
+        Side::Send => Ok(()),
+        Side::Recv => put_from(out, place, known.partner(asked as usize)),
     }
 }
 
@@ -68,34 +87,8 @@ fn put_level(
     put_number(out, b":", levels.level(port))
 }
 
-/// Appends what is told of the value that a case moved.
+/// Appends what is told of the value that moved, if one did.
 fn put_moved(
-    out: &mut Vec<u8>,
-    known: &Known<'_>,
-    levels: &Levels,
-    place: u32,
-    asked: u32,
-    case: Case,
-    outcome: Outcome,
-) -> Result<(), AllocError>
-    requires known { IsKnown known.now }
-    requires levels { AreLevels (entries_of known.now) (told_by (place + 1) (told_of known.now)) levels.now }
-    requires within { asked < length (entries_of known.now) }
-    ensures { OnOk result (out.new.items ≡ out.old.items
-        ++ moved_words (entries_of known.now) (told_of known.now) place asked case outcome) }
-{
-    match (case, outcome) {
-        (Case::Send(port, _), Outcome::Sent) => put_level(out, known, levels, place, port),
-        (Case::Recv(port), Outcome::Got(_)) => {
-            put_sender(out, place, known.partner(asked as usize))?;
-            put_level(out, known, levels, place, port)
-        }
-        _ => Ok(()),
-    }
-}
-
-/// Appends what is told of a value.
-fn put_value(
     out: &mut Vec<u8>,
     known: &Known<'_>,
     levels: &Levels,
@@ -105,15 +98,13 @@ fn put_value(
     requires known { IsKnown known.now }
     requires levels { AreLevels (entries_of known.now) (told_by (place + 1) (told_of known.now)) levels.now }
     ensures { OnOk result (out.new.items ≡ out.old.items
-        ++ value_words (entries_of known.now) (told_of known.now) place told.now.asked told.now.event.what) }
+        ++ moved_words (entries_of known.now) (told_of known.now) place told.now.asked (move_of (entries_of known.now) told.now)) }
 {
-    let What::Fired { case, outcome } = told.event.what else {
+    let Some(Move { port, side, .. }) = move_of(known.journal.entries(), told) else {
         return Ok(());
     };
-    match known.journal.entries().case_at(told.asked as usize, case) {
-        Some(case) => put_moved(out, known, levels, place, told.asked, case, outcome),
-        None => Ok(()),
-    }
+    put_sender(out, known, place, told.asked, side)?;
+    put_level(out, known, levels, place, port)
 }
 
 /// Appends what is told of an event that came by the step at this place.
@@ -134,7 +125,7 @@ fn put_told(
     }
     put_number(out, b";", place.saturating_sub(told.asked).into())?;
     put_end(out, told.event.what)?;
-    put_value(out, known, levels, place, told)
+    put_moved(out, known, levels, place, told)
 }
 
 /// Appends what is told of these events, which came by the step at this place.

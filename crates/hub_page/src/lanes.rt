@@ -6,10 +6,9 @@ ghost use Rattle.hub_page.specs.Block.{count_of};
 ghost use Rattle.hub_page.specs.Lanes.{is_closed, is_trouble, is_trouble_in, lane_of, one_if};
 ghost use Rattle.hub_page.specs.ParkedCalls.{call_of};
 
-use crate::counts::count_one;
 use crate::parked_calls::ParkedCalls;
 use hub_base::{Outcome, Pid, What};
-use hub_story::Told;
+use hub_story::{Told, count_one};
 use std::alloc::AllocError;
 
 /// The lane of a process, where there are so many.

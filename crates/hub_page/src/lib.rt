@@ -2,14 +2,12 @@
 #![tactic(auto)]
 
 mod block;
-mod counts;
 mod data;
 mod ends;
 mod entries;
 mod excerpt;
 mod known;
 mod lanes;
-mod levels;
 mod limits;
 mod number;
 mod page;

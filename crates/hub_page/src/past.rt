@@ -5,9 +5,8 @@ ghost use Rattle.hub_page.specs.Known.{IsKnown};
 ghost use Rattle.hub_page.specs.Past.{IsPast};
 
 use crate::known::Known;
-use crate::levels::Levels;
 use crate::parked_calls::ParkedCalls;
-use hub_story_text::LastMoves;
+use hub_story::{LastMoves, Levels};
 use std::alloc::{AllocError, Global};
 
 /// What is told of all steps before a place.

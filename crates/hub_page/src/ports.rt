@@ -3,28 +3,13 @@
 ghost use Rattle.std.specs.Prelude.{◌≡◌, ◌≤◌, ◌<◌, ◌+◌, ◌==◌, length, max, replicate, IfOk, if◌then◌else◌};
 ghost use Rattle.std.specs.List.{list_any};
 ghost use Rattle.hub_base.specs.declared.value.Port.{Port};
-ghost use Rattle.hub_page.specs.Levels.{count_at, level_of};
-ghost use Rattle.hub_page.specs.Ports.{moved_port, moves_on};
+ghost use Rattle.hub_story.specs.Levels.{count_at, level_of};
+ghost use Rattle.hub_page.specs.Ports.{moves_on};
 
-use crate::levels::Levels;
-use hub_base::{Case, MOST_PORTS, Outcome, Port, What};
+use hub_base::{MOST_PORTS, Port};
 use hub_core::ShortEntries;
-use hub_story::Told;
+use hub_story::{Levels, Told, move_of};
 use std::alloc::{AllocError, Global};
-
-/// The port on which the event tells that a value moved.
-fn moved_port(entries: &ShortEntries, told: &Told) -> Option<Port>
-    ensures { result ≡ moved_port entries.now told.now }
-{
-    let What::Fired { case, outcome } = told.event.what else {
-        return None;
-    };
-    match (entries.case_at(told.asked as usize, case)?, outcome) {
-        (Case::Send(port, _), Outcome::Sent) => Some(port),
-        (Case::Recv(port), Outcome::Got(_)) => Some(port),
-        _ => None,
-    }
-}
 
 /// A table of what each port holds at most, before a step.
 pub(crate) fn none_held(alloc: Global) -> Result<Vec<u64>, AllocError>
@@ -52,8 +37,8 @@ fn note_told(most: &mut Vec<u64>, levels: &Levels, entries: &ShortEntries, told:
         ≡ (if moves_on entries.now p told.now then max (count_at most.old.items p) (level_of levels.now p) else count_at most.old.items p) }
     ensures whole { length most.new.items ≡ MOST_PORTS + 1 }
 {
-    if let Some(port) = moved_port(entries, told) {
-        note_level(most, levels, port);
+    if let Some(moved) = move_of(entries, told) {
+        note_level(most, levels, moved.port);
     }
 }
 

@@ -2,15 +2,14 @@
 
 ghost use Rattle.std.specs.Prelude.{◌≡◌, ◌≤◌, ◌++◌, OnOk};
 ghost use Rattle.hub_page.specs.Known.{entries_of, procs_of, told_of};
-ghost use Rattle.hub_page.specs.Sketch.{IsSketch, lane_counts, lane_words, lanes_words, part_words, port_counts};
-ghost use Rattle.hub_page.specs.Sketch.{port_words, ports_words, since, sketch_words};
+ghost use Rattle.hub_page.specs.Sketch.{IsSketch, lane_counts, lane_words, lanes_words, part_words, port_counts, port_words, ports_words, since, sketch_words};
 
 use crate::block::Block;
-use crate::counts::count_at;
 use crate::known::Known;
 use crate::number::put_number;
 use crate::past::Past;
 use hub_base::{MOST_PORTS, Port};
+use hub_story::count_at;
 use std::alloc::AllocError;
 
 /// What is counted of a lane.

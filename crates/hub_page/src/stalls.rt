@@ -1,17 +1,15 @@
 //! What the line of a step tells of those whom it stalled.
 
 ghost use Rattle.std.specs.Prelude.{◌≡◌, ◌++◌, OnOk};
-ghost use Rattle.std.specs.List.{flat_map, list_any};
+ghost use Rattle.std.specs.List.{flat_map};
 ghost use Rattle.hub_page.specs.Known.{entries_of, told_of};
-ghost use Rattle.hub_page.specs.Stalls.{IsStall, back_words, call_words, can_help, case_words, gone_sign, helper, is_beside, is_of};
-ghost use Rattle.hub_page.specs.Stalls.{last_words, stall_words, until, waiting_words, waits_beside, whom, whom_words};
+ghost use Rattle.hub_page.specs.Stalls.{IsStall, back_words, call_words, case_words, gone_sign, last_words, stall_words, until, waiting_words, whom_words};
 
 use crate::known::Known;
 use crate::number::put_number;
 use hub_base::Case;
-use hub_core::{CaseRoom, ShortEntries};
-use hub_story::Told;
-use hub_story_text::{AtPort, LastMoves, Mover};
+use hub_core::CaseRoom;
+use hub_story::{AtPort, LastMoves, Mover, Told, whom};
 use std::alloc::AllocError;
 
 /// Appends how many steps ago the one was asked that moved a value.
@@ -24,7 +22,7 @@ fn put_back(
     ensures { OnOk result (out.new.items ≡ out.old.items ++ words.now ++ back_words place mover) }
 {
     match mover {
-        Some(mover) => put_number(out, words, place.saturating_sub(mover.step).into()),
+        Some(mover) => put_number(out, words, place.saturating_sub(mover.asked).into()),
         None => out.extend_from_slice(words),
     }
 }
@@ -49,97 +47,7 @@ fn put_last(out: &mut Vec<u8>, place: u32, case: Case, there: AtPort) -> Result<
     put_gone(out, case, there.gone)
 }
 
-/// Whether both send on one port, or both receive from it.
-fn is_beside(case: Case, other: Case) -> bool
-    ensures { result ≡ is_beside case other }
-{
-    match case {
-        Case::Recv(port) => matches!(other, Case::Recv(same) if same.0 == port.0),
-        Case::Send(port, _) => matches!(other, Case::Send(same, _) if same.0 == port.0),
-    }
-}
-
-/// Whether one of these is.
-fn any_beside(case: Case, cases: &[Case]) -> bool
-    ensures { result ≡ list_any (is_beside case) cases.now }
-{
-    cases.iter().any(|other| is_beside(case, *other))
-}
-
-/// Whether the call is of this process.
-fn is_of(pid: u8, told: &Told) -> bool
-    ensures { result ≡ is_of pid told.now }
-{
-    told.event.pid.0 == pid
-}
-
-/// Whether one of these is.
-fn any_of(pid: u8, stalled: &[Told]) -> bool
-    ensures { result ≡ list_any (is_of pid) stalled.now }
-{
-    stalled.iter().any(|told| is_of(pid, told))
-}
-
-/// Whether the call is of this process, and waits beside the case.
-fn waits_beside(entries: &ShortEntries, case: Case, pid: u8, told: &Told) -> bool
-    ensures { result ≡ waits_beside entries.now case pid told.now }
-{
-    let mut room = CaseRoom::new();
-    is_of(pid, told) && any_beside(case, entries.cases_at(told.asked as usize, &mut room))
-}
-
-/// Whether one of these does.
-fn any_waits_beside(entries: &ShortEntries, case: Case, pid: u8, stalled: &[Told]) -> bool
-    ensures { result ≡ list_any (waits_beside entries.now case pid) stalled.now }
-{
-    stalled
-        .iter()
-        .any(|told| waits_beside(entries, case, pid, told))
-}
-
-/// Whether a call that waits by this case may wait for the process.
-fn can_help(entries: &ShortEntries, stalled: &[Told], own: &Told, case: Case, pid: u8) -> bool
-    ensures { result ≡ can_help entries.now stalled.now own.now case pid }
-{
-    !is_of(pid, own) && any_of(pid, stalled) && !any_waits_beside(entries, case, pid, stalled)
-}
-
-/// The process that moved a value, where the call may wait for it.
-fn helper(
-    entries: &ShortEntries,
-    stalled: &[Told],
-    own: &Told,
-    case: Case,
-    mover: Option<Mover>,
-) -> Option<u8>
-    ensures { result ≡ helper entries.now stalled.now own.now case mover }
-{
-    match mover {
-        Some(mover) if can_help(entries, stalled, own, case, mover.pid.0) => Some(mover.pid.0),
-        _ => None,
-    }
-}
-
-/// For whom the call perhaps waits by this case, where these were the last.
-fn whom(
-    entries: &ShortEntries,
-    stalled: &[Told],
-    own: &Told,
-    sender: Option<Mover>,
-    receiver: Option<Mover>,
-    case: Case,
-) -> Option<u8>
-    ensures { result ≡ whom entries.now stalled.now own.now sender receiver case }
-{
-    let by_sender = helper(entries, stalled, own, case, sender);
-    let by_receiver = helper(entries, stalled, own, case, receiver);
-    match case {
-        Case::Recv(_port) => by_sender.or(by_receiver),
-        Case::Send(_port, _value) => by_receiver.or(by_sender),
-    }
-}
-
-/// Appends for whom it does.
+/// Appends for whom a call perhaps waits.
 fn put_whom(out: &mut Vec<u8>, own: &Told, whom: Option<u8>) -> Result<(), AllocError>
     ensures { OnOk result (out.new.items ≡ out.old.items ++ whom_words own.now whom) }
 {
@@ -177,17 +85,8 @@ fn put_waiting(
         stall.now.place stall.now.stalled.now own.now there case) }
 {
     put_last(out, stall.place, case, there)?;
-    let AtPort {
-        sender,
-        receiver,
-        ..
-    } = there;
     let entries = stall.known.journal.entries();
-    put_whom(
-        out,
-        own,
-        whom(entries, stall.stalled, own, sender, receiver, case),
-    )
+    put_whom(out, own, whom(entries, stall.stalled, own, there, case))
 }
 
 /// Appends what is told of a case of a call.

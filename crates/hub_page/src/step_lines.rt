@@ -1,15 +1,14 @@
 //! The lines of the steps, and what is known and counted behind each of them.
 
 ghost use Rattle.std.specs.Prelude.{◌≡◌, ◌≤◌, ◌<◌, ◌+◌, ◌-◌, ◌^◌, ◌++◌, filter, length, IfOk, OnOk};
-ghost use Rattle.hub_story.specs.Levels.{told_by};
+ghost use Rattle.hub_story.specs.Levels.{AreLevels, told_by};
 ghost use Rattle.hub_story.specs.Waiting.{is_stalled};
-ghost use Rattle.hub_story_text.specs.LastMoves.{AreLast};
+ghost use Rattle.hub_story.specs.LastMoves.{AreLast};
 ghost use Rattle.hub_story_text.specs.StoryText.{came_by};
 ghost use Rattle.hub_page.specs.Block.{IsBlock, IsWhole};
 ghost use Rattle.hub_page.specs.Data.{full_line, step_line};
 ghost use Rattle.hub_page.specs.Known.{IsKnown, entries_of, procs_of, told_of};
 ghost use Rattle.hub_page.specs.KnownPage.{line_of, lines_of};
-ghost use Rattle.hub_page.specs.Levels.{AreLevels};
 ghost use Rattle.hub_page.specs.Past.{IsPast, IsRest};
 ghost use Rattle.hub_page.specs.Stalls.{stall_words};
 
@@ -18,13 +17,12 @@ use crate::ends::put_all_told;
 use crate::entries::put_entry;
 use crate::excerpt::is_told;
 use crate::known::Known;
-use crate::levels::Levels;
 use crate::past::Past;
 use crate::stalls::{Stall, put_stall};
 use hub_base::{EntryRef, NoMemory};
 use hub_core::CaseRoom;
-use hub_story::Told;
-use hub_story_text::{LastMoves, count_of, stalled_of};
+use hub_story::{LastMoves, Levels, Told};
+use hub_story_text::{count_of, stalled_of};
 use std::alloc::AllocError;
 
 /// Appends what is told of those of these calls that the step at this place stalled.

@@ -3,7 +3,6 @@ mod ArrowsLeft
 mod Askings
 pub mod Plain
 mod Halves
-mod Lasts
 mod OtherPorts
 mod Places
 mod Ports

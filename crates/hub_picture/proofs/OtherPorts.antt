@@ -1,59 +1,41 @@
 -- What is told of other ports counts for nothing on this one.
-use Rattle.std.proofs.Common.{◌≡◌, ◌∙◌, ℕ, Bool, true, false}
-use Rattle.std.proofs.Common.{cond, List, [], ◌∷◌, filter, refl, ap, sym, Option, None, Some, slice_get, arith, nat_le}
-use Rattle.std.proofs.Math.Bool.{and-false}
+use Rattle.std.proofs.Common.{◌≡◌, ◌∙◌, ℕ, Bool, true, false, cond, List, [], ◌∷◌, filter, refl, ap, sym, Option, None, Some, slice_get, arith}
 use Rattle.std.specs.List.{filter_map}
-use Rattle.std.specs.Option.{option_map}
 use Rattle.hub_base.specs.declared.value.Port.{Port}
 use Rattle.hub_base.specs.declared.value.Value.{Value}
 use Rattle.hub_base.specs.declared.case.Case.{Case}
 use Rattle.hub_base.specs.declared.case.Case.TheVariants.{Send, Recv}
 use Rattle.hub_base.specs.Entry.{Entry}
 use Rattle.hub_base.specs.declared.event.Outcome.{Outcome}
-use Rattle.hub_base.specs.declared.event.Outcome.TheVariants.{Sent, Got, Drained, Closed}
+use Rattle.hub_base.specs.declared.event.Outcome.TheVariants.{Sent, Got}
 use Rattle.hub_base.specs.declared.event.What.{What}
 use Rattle.hub_base.specs.declared.event.What.TheVariants as what
 use Rattle.hub_base.specs.Values.{cases_at, of_what, sent_on, got_on}
 use Rattle.hub_story.specs.declared.levels.Level.{Level}
+use Rattle.hub_story.specs.declared.moves.Move.{Move}
 use Rattle.hub_story.specs.declared.told.Told.{Told}
 use Rattle.hub_story.specs.declared.window.Window.{Window}
+use Rattle.hub_story.specs.Levels.{empty}
+use Rattle.hub_story.specs.Moves.{move_in, move_of}
 use Rattle.hub_story.specs.Passing.{beside, moved_by, passages, receives, sends}
 use Rattle.hub_picture.specs.declared.strips.Strip.{Strip}
-use Rattle.hub_picture.specs.declared.waiters.Side.{Side}
-use Rattle.hub_picture.specs.declared.waiters.Side.TheVariants.{Sends, Receives}
-use Rattle.hub_picture.specs.Levels.{after, empty, is_same, levels_from, levels_on, shows_level}
-use Rattle.hub_base.specs.Ready.{port_of}
-use Rattle.hub_picture.specs.Moves.{fired_port, is_port, is_told_on}
-use Rattle.hub_picture.specs.Waiters.{last_on, last_that, later, passed_until}
+use Rattle.hub_picture.specs.Levels.{after, is_same, levels_from, levels_on, shows_level, with_move}
+use Rattle.hub_picture.specs.Moves.{is_through, is_told_on}
 
-no-send : (p : Port) (c : Option Case) (o : Outcome) → is_port p (option_map port_of c) ≡ false → sent_on p c o ≡ None
-no-send p None o other = refl
+no-send : (p : Port) (c : Option Case) (o : Outcome) → is_through p (move_in c o) ≡ false → sent_on p c o ≡ None
 no-send p (Some (Send q v)) Sent other = rw other refl
-no-send p (Some (Send q v)) (Got u) other = refl
-no-send p (Some (Send q v)) Drained other = refl
-no-send p (Some (Send q v)) Closed other = refl
-no-send p (Some (Recv q)) o other = refl
+no-send p c o other = refl
 
-no-receive : (p : Port) (c : Option Case) (o : Outcome) → is_port p (option_map port_of c) ≡ false → got_on p c o ≡ None
-no-receive p None o other = refl
-no-receive p (Some (Send q v)) o other = refl
-no-receive p (Some (Recv q)) Sent other = refl
+no-receive : (p : Port) (c : Option Case) (o : Outcome) → is_through p (move_in c o) ≡ false → got_on p c o ≡ None
 no-receive p (Some (Recv q)) (Got v) other = rw other refl
-no-receive p (Some (Recv q)) Drained other = refl
-no-receive p (Some (Recv q)) Closed other = refl
+no-receive p c o other = refl
 
 -- a reading of cases that tells nothing of other ports
 nothing : (p : Port) (pick : Option Case → Outcome → Option Value) (cases : List Case) (w : What) →
-    ((c : Option Case) (o : Outcome) → is_port p (option_map port_of c) ≡ false → pick c o ≡ None) →
-    is_port p (fired_port cases w) ≡ false → of_what pick cases w ≡ None
+    ((c : Option Case) (o : Outcome) → is_through p (move_in c o) ≡ false → pick c o ≡ None) →
+    is_through p (of_what move_in cases w) ≡ false → of_what pick cases w ≡ None
 nothing p pick cases (what.Fired i o) none other = none (slice_get cases i) o other
-nothing p pick cases (what.Made q) none other = refl
-nothing p pick cases what.Default none other = refl
-nothing p pick cases what.Done none other = refl
-nothing p pick cases what.Parked none other = refl
-nothing p pick cases what.Stalled none other = refl
-nothing p pick cases (what.Fault f) none other = refl
-nothing p pick cases what.Cancelled none other = refl
+nothing p pick cases w none other = refl
 
 no-sent : (es : List Entry) (p : Port) (t : Told) → is_told_on es p t ≡ false → of_what (sent_on p) (cases_at es t.asked) t.event.what ≡ None
 no-sent es p t other = nothing p (sent_on p) (cases_at es t.asked) t.event.what (no-send p) other
@@ -83,7 +65,11 @@ same-passages es all p =
 
 -- ---- what was held
 unmoved : (es : List Entry) (p : Port) (l : Level) (t : Told) → is_told_on es p t ≡ false → after es p l t ≡ l
-unmoved es p l t other = rw (no-sent es p t other, no-got es p t other) refl
+unmoved es p l t other = by (move_of es t) other
+  where
+    by : (o : Option Move) → is_through p o ≡ false → with_move p l o ≡ l
+    by None other = refl
+    by (Some m) other = rw other refl
 
 is-itself : (l : Level) → is_same l l ≡ true
 is-itself l = grind arith
@@ -109,24 +95,3 @@ same-from es s from l (t ∷ ts) = by (is_told_on es s.port t) refl (same-from e
 
 pub same-levels : (w : Window) (es : List Entry) (all : List Told) (s : Strip) → levels_on w es (filter (is_told_on es s.port) all) s ≡ levels_on w es all s
 same-levels w es all s = ap (filter (shows_level w)) (same-from es s 0 empty all)
-
--- ---- who was the last
-not-passed : (side : Side) (es : List Entry) (p : Port) (step : ℕ) (t : Told) → is_told_on es p t ≡ false → passed_until side es p step t ≡ false
-not-passed Sends es p step t other = rw (no-sent es p t other) (and-false (nat_le t.by step))
-not-passed Receives es p step t other = rw (no-got es p t other) (and-false (nat_le t.by step))
-
-last-kept : (P q : Told → Bool) (before : Option Told) (ts : List Told) → ((t : Told) → q t ≡ false → P t ≡ false) →
-    last_that P before (filter q ts) ≡ last_that P before ts
-last-kept P q before [] none = refl
-last-kept P q before (t ∷ ts) none = by (q t) refl (last-kept P q (later (P t) t before) ts none) (last-kept P q before ts none)
-  where
-    by : (b : Bool) → b ≡ q t → last_that P (later (P t) t before) (filter q ts) ≡ last_that P (later (P t) t before) ts →
-        last_that P before (filter q ts) ≡ last_that P before ts →
-        last_that P before (cond b (t ∷ filter q ts) (filter q ts)) ≡ last_that P before (t ∷ ts)
-    by true is taken left = taken
-    by false is taken left = rw (none t (sym is)) left
-
-pub same-last : (side : Side) (es : List Entry) (all : List Told) (p : Port) (step : ℕ) →
-    last_on side es (filter (is_told_on es p) all) p step ≡ last_on side es all p step
-same-last side es all p step =
-    last-kept (passed_until side es p step) (is_told_on es p) None all (λ t other. not-passed side es p step t other)

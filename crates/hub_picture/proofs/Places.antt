@@ -8,9 +8,11 @@ use Rattle.std.proofs.lemmas.List.Elements.{filter_more}
 use Rattle.std.proofs.lemmas.Option.{get_or_from_slice_get, slice_get-get_or, slice_get-map, slice_get_within}
 use Rattle.hub_base.specs.declared.value.Port.{Port}
 use Rattle.hub_base.specs.Entry.{Entry}
+use Rattle.hub_story.specs.declared.moves.Move.{Move}
 use Rattle.hub_story.specs.declared.told.Told.{Told}
+use Rattle.hub_story.specs.Moves.{move_of}
 use Rattle.hub_story.specs.OfPorts.{one_of}
-use Rattle.hub_picture.specs.Moves.{StandAt, all_at, is_port, is_told_on, place_on, port_told}
+use Rattle.hub_picture.specs.Moves.{StandAt, all_at, is_through, is_told_on, place_on}
 
 -- ---- what stands at places
 -- the option that is in an option
@@ -92,9 +94,9 @@ place-next es all p i d old new below so is =
     ∙ ap (map Some) (sym (filter_more (is_told_on es p) all i d below))
 
 -- what is told of no port
-pub place-none : (es : List Entry) (q : Port) (t : Told) (place : ℕ) (old : List ℕ) → port_told es t ≡ None → old ≡ old ++ place_on es q t place
-place-none es q t place old none = sym (ap (λ o. old ++ cond (is_port q o) (place ∷ []) []) none ∙ append-nil old)
+pub place-none : (es : List Entry) (q : Port) (t : Told) (place : ℕ) (old : List ℕ) → move_of es t ≡ None → old ≡ old ++ place_on es q t place
+place-none es q t place old none = sym (ap (λ o. old ++ cond (is_through q o) (place ∷ []) []) none ∙ append-nil old)
 
--- and of this one
-pub place-one : (es : List Entry) (q p : Port) (t : Told) (place : ℕ) → port_told es t ≡ Some p → one_of p q place ≡ place_on es q t place
-place-one es q p t place is = sym (ap (λ o. cond (is_port q o) (place ∷ []) []) is)
+-- and where one did
+pub place-one : (es : List Entry) (q : Port) (m : Move) (t : Told) (place : ℕ) → move_of es t ≡ Some m → one_of m.port q place ≡ place_on es q t place
+place-one es q m t place is = sym (ap (λ o. cond (is_through q o) (place ∷ []) []) is)

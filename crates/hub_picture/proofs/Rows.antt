@@ -10,7 +10,8 @@ use Rattle.hub_story.specs.declared.told.Told.{Told}
 use Rattle.hub_story.specs.declared.window.Window.{Window}
 use Rattle.hub_picture.specs.declared.levels.Held.{Held}
 use Rattle.hub_picture.specs.declared.strips.Strip.{Strip}
-use Rattle.hub_picture.specs.Levels.{after, empty, held, holds_any, in_row, is_same, levels_from, levels_on, rows_from, shows_level}
+use Rattle.hub_story.specs.Levels.{empty}
+use Rattle.hub_picture.specs.Levels.{after, held, holds_any, in_row, is_same, levels_from, levels_on, rows_from, shows_level}
 
 -- ---- as many levels are shown in any row
 one-more : (b : Bool) (h other : Held) (xs ys : List Held) → length xs ≡ length ys → length (cond b (h ∷ xs) xs) ≡ length (cond b (other ∷ ys) ys)

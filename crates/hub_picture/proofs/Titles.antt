@@ -18,6 +18,7 @@ use Rattle.hub_base.specs.declared.value.Value.{Value}
 use Rattle.hub_base.specs.Content.{Content, IsContent}
 use Rattle.hub_base.specs.Value.{IsValue, content, number_in, value_field}
 use Rattle.hub_base.specs.Content.Content.{Num, Bytes}
+use Rattle.hub_story.specs.declared.last_moves.Mover.{Mover}
 use Rattle.hub_story.specs.declared.told.Told.{Told}
 use Rattle.hub_picture.specs.declared.asked.Asked.{Asked}
 use Rattle.hub_picture.specs.declared.levels.Held.{Held}
@@ -36,7 +37,7 @@ use Rattle.hub_picture.specs.Svg.Stalls.{stall_title}
 use Rattle.hub_picture.specs.Svg.Strips.{strip_title, level_title, count_of}
 use Rattle.hub_picture.specs.Svg.Waiters.{gone_words, waiter_words}
 use Rattle.hub_picture.specs.Svg.Whom.{whom_words}
-use Rattle.hub_picture.specs.Plain.{IsPlain, ToldFits, AskedFits, StripFits, HeldFits, WaiterFits, LabelFits, PlainLaw}
+use Rattle.hub_picture.specs.Plain.{IsPlain, MoverFits, ToldFits, AskedFits, StripFits, HeldFits, WaiterFits, LabelFits, PlainLaw}
 use Rattle.hub_picture.proofs.Plain.{plain-both, plain-number, plain-value, plain-joined, plain-line}
 
 fault-small : (f : Fault) → fault_number f ≤ 255
@@ -124,12 +125,12 @@ aim-plain : (c : Case) → CaseFits c → IsPlain (aim_text c)
 aim-plain (case.Send p v) fits = worded (codes " to send on port ") p.0 GREATEST_PORT refl fits.0 (omega arith)
 aim-plain (case.Recv p) fits = worded (codes " to receive from port ") p.0 GREATEST_PORT refl fits (omega arith)
 
-mover-plain : (mover : Option Told) → IfSome mover ToldFits → IsPlain (mover_text mover)
+mover-plain : (mover : Option Mover) → IfSome mover MoverFits → IsPlain (mover_text mover)
 mover-plain None fits = refl
-mover-plain (Some t) fits =
-    plain-both (codes "P" ++ decimal t.event.pid.0) (codes " at step " ++ decimal (t.by + 1))
-    (plain-both (codes "P") (decimal t.event.pid.0) refl (plain-number t.event.pid.0 (omega (arith, fits.event.pid))))
-    (plain-both (codes " at step ") (decimal (t.by + 1)) refl (step-plain t.by fits.by))
+mover-plain (Some m) fits =
+    plain-both (codes "P" ++ decimal m.pid.0) (codes " at step " ++ decimal (m.by + 1))
+    (plain-both (codes "P") (decimal m.pid.0) refl (plain-number m.pid.0 (omega (arith, fits.pid))))
+    (plain-both (codes " at step ") (decimal (m.by + 1)) refl (step-plain m.by fits.by))
 
 gone-plain : (c : Case) (gone : Bool) → IsPlain (gone_words c gone)
 gone-plain (case.Send p v) true = refl

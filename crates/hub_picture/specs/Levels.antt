@@ -1,19 +1,18 @@
 -- How full ports were: a strip for each port that holds a value in the window, and on it a level from each value that moves there
 -- to the next.
-use Rattle.std.specs.Prelude.{ℕ, zero, ◌+◌, ◌==◌, ◌&&◌, Bool, not, nat_lt, length, List, [], ◌∷◌, filter, Option, None, Some, if◌then◌else◌}
+use Rattle.std.specs.Prelude.{ℕ, ◌+◌, ◌==◌, ◌&&◌, Bool, not, nat_lt, length, List, [], ◌∷◌, filter, Option, None, Some, if◌then◌else◌}
 use Rattle.std.specs.List.{flat_map}
 use Rattle.hub_base.specs.declared.value.Port.{Port}
-use Rattle.hub_base.specs.declared.value.Value.{Value}
 use Rattle.hub_base.specs.Entry.{Entry}
-use Rattle.hub_base.specs.declared.case.Case.{Case}
-use Rattle.hub_base.specs.declared.event.Outcome.{Outcome}
 use Rattle.hub_base.specs.declared.event.What.{What}
 use Rattle.hub_base.specs.declared.event.What.TheVariants as what
-use Rattle.hub_base.specs.Values.{cases_at, of_what, sent_on, got_on}
 use Rattle.hub_story.specs.declared.levels.Level.{Level}
+use Rattle.hub_story.specs.declared.moves.Move.{Move}
 use Rattle.hub_story.specs.declared.told.Told.{Told}
 use Rattle.hub_story.specs.declared.window.Window.{Window}
+use Rattle.hub_story.specs.Levels.{empty, with_one}
 use Rattle.hub_story.specs.Lives.{most_room}
+use Rattle.hub_story.specs.Moves.{move_of}
 use Rattle.hub_picture.specs.declared.strips.Strip.{Strip}
 use Rattle.hub_picture.specs.declared.levels.Held.{Held}
 use Rattle.hub_story.specs.Windows.{goes_on}
@@ -45,24 +44,14 @@ abbrev pub all_strips : List Entry → List Told → List Strip
 all_strips es all = strips_from es all 0 all
 
 -- ---- what they held
-abbrev pub empty : Level
-empty = record { sent = zero; received = zero }
+-- with what moved, where it did so through the port
+abbrev pub with_move : Port → Level → Option Move → Level
+with_move p l None = l
+with_move p l (Some m) = if m.port.0 == p.0 then with_one m.side l else l
 
--- one more, where a value moved
-abbrev pub counted : ℕ → Option Value → ℕ
-counted n None = n
-counted n (Some v) = n + 1
-
--- with the value that a case moved on the port, by its outcome
-abbrev pub with_case : Port → Level → Case → Outcome → Level
-with_case p l c o = record { sent = counted l.sent (sent_on p (Some c) o); received = counted l.received (got_on p (Some c) o) }
-
--- how many values were sent on the port and received from it, with what is told here
+-- with what is told here
 abbrev pub after : List Entry → Port → Level → Told → Level
-after es p l t = record {
-  sent = counted l.sent (of_what (sent_on p) (cases_at es t.asked) t.event.what);
-  received = counted l.received (of_what (got_on p) (cases_at es t.asked) t.event.what);
-}
+after es p l t = with_move p l (move_of es t)
 
 abbrev pub is_same : Level → Level → Bool
 is_same l m = (l.sent == m.sent) && (l.received == m.received)

@@ -2,7 +2,6 @@ pub mod Lanes
 pub mod Levels
 pub mod Moves
 pub mod Waiters
-pub mod Lasts
 pub mod Drawings
 pub mod Shapes
 pub mod Labels

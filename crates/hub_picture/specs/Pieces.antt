@@ -7,6 +7,7 @@ use Rattle.hub_base.specs.declared.case.Case.{Case}
 use Rattle.hub_base.specs.declared.case.Case.TheVariants as case
 use Rattle.hub_base.specs.Lines.{line}
 use Rattle.hub_base.specs.EventText.{event_line}
+use Rattle.hub_story.specs.declared.last_moves.Mover.{Mover as Who}
 use Rattle.hub_story.specs.declared.told.Told.{Told}
 use Rattle.hub_picture.specs.declared.piece.Piece.{Piece}
 use Rattle.hub_picture.specs.declared.piece.Piece.TheVariants.{Word, Number, Line, Tells, End, Until, Mover, Aim, Class, Ending, Name, Moves}
@@ -32,9 +33,9 @@ until_text None = codes " on"
 until_text (Some until) = codes " until step " ++ decimal (until + 1)
 
 -- who it was, and by which step
-abbrev pub mover_text : Option Told → List ℕ
+abbrev pub mover_text : Option Who → List ℕ
 mover_text None = codes "nobody"
-mover_text (Some t) = (codes "P" ++ decimal t.event.pid.0) ++ (codes " at step " ++ decimal (t.by + 1))
+mover_text (Some m) = (codes "P" ++ decimal m.pid.0) ++ (codes " at step " ++ decimal (m.by + 1))
 
 -- what a case waits for
 abbrev pub aim_text : Case → List ℕ

@@ -7,6 +7,7 @@ use Rattle.hub_base.specs.Value.{IsValue}
 use Rattle.hub_base.specs.declared.limits.TheConstants.{GREATEST_PID, GREATEST_PORT}
 use Rattle.hub_base.specs.EventText.{EventFits}
 use Rattle.hub_base.specs.Text.{CaseFits, Fits}
+use Rattle.hub_story.specs.declared.last_moves.Mover.{Mover}
 use Rattle.hub_story.specs.declared.told.Told.{Told}
 use Rattle.hub_picture.specs.declared.asked.Asked.{Asked}
 use Rattle.hub_picture.specs.declared.levels.Held.{Held}
@@ -53,11 +54,15 @@ pub record HeldFits (h : Held) : Type 0 where
   pub until : IfSome h.until (λ u. u < 2 ^ 32)
   pub sent : h.level.sent < 2 ^ 64
 
+pub record MoverFits (m : Mover) : Type 0 where
+  pub pid : m.pid.0 ≤ GREATEST_PID
+  pub by : m.by < 2 ^ 32
+
 pub record WaiterFits (w : Waiter) : Type 0 where
   pub told : ToldFits w.told
   pub case : CaseFits w.case
-  pub sender : IfSome w.sender ToldFits
-  pub receiver : IfSome w.receiver ToldFits
+  pub sender : IfSome w.sender MoverFits
+  pub receiver : IfSome w.receiver MoverFits
 
 abbrev pub LabelFits : Label → Type 0
 LabelFits (Make p) = p.0 ≤ GREATEST_PORT

@@ -12,7 +12,8 @@ use crate::Window;
 use crate::moves::{Moves, OnPort};
 use hub_base::Port;
 use hub_core::ShortEntries;
-use hub_story::{Passage, Side, Told, moved_by};
+use hub_parts::Side;
+use hub_story::{Passage, Told, moved_by};
 use std::alloc::{AllocError, Global};
 
 /// The passage of a value through a port.
@@ -37,7 +38,7 @@ fn next_sent(entries: &ShortEntries, port: Port, told: &OnPort<'_>, from: usize)
     ensures none { IfNone result (sends entries.now (drop from told.now) port ≡ []) }
 {
     for place in from..told.len() {
-        if is_moved(Side::Sends, port, entries, told.at(place)) {
+        if is_moved(Side::Send, port, entries, told.at(place)) {
             return Some(place);
         }
     }
@@ -60,10 +61,10 @@ fn add_arrow(
     if !window.touches(sent.by, received.by) {
         return Ok(());
     }
-    let Some(sent) = moved_by(Side::Sends, port, entries, sent) else {
+    let Some(sent) = moved_by(Side::Send, port, entries, sent) else {
         return Ok(());
     };
-    let Some(received) = moved_by(Side::Receives, port, entries, received) else {
+    let Some(received) = moved_by(Side::Recv, port, entries, received) else {
         return Ok(());
     };
     arrows.push(Arrow {
@@ -87,7 +88,7 @@ fn add_arrows(
     let mut from = 0;
     for place in 0..told.len() {
         let received = told.at(place);
-        if is_moved(Side::Receives, port, entries, received) {
+        if is_moved(Side::Recv, port, entries, received) {
             let Some(sent) = next_sent(entries, port, told, from) else {
                 return Ok(());
             };

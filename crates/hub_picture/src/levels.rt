@@ -2,13 +2,13 @@
 
 ghost use Rattle.std.specs.Prelude.{◌≡◌, ◌<◌, ◌≤◌, ◌+◌, ◌-◌, ◌^◌, ◌∷◌, ◌++◌, [], filter, IfOk, OnOk};
 ghost use Rattle.std.specs.List.{flat_map};
-ghost use Rattle.hub_picture.specs.Levels.{after, empty, in_row, is_same, levels_on, rows_from, shows_level, with_case};
+ghost use Rattle.hub_picture.specs.Levels.{after, in_row, is_same, levels_on, rows_from, shows_level};
 
 use crate::moves::{Moves, OnPort};
 use crate::{Strip, Window};
-use hub_base::{Case, Outcome, Port, What};
+use hub_base::Port;
 use hub_core::ShortEntries;
-use hub_story::{Level, Told};
+use hub_story::{Level, Told, move_of};
 use std::alloc::{AllocError, Global};
 
 /// How full a port was from one step until another.
@@ -24,49 +24,17 @@ pub struct Held {
     pub level: Level,
 }
 
-/// The level with the value that a case moved on the port, by its outcome.
-fn with_case(port: Port, level: Level, case: Case, outcome: Outcome) -> Level
-    requires sent { level.sent < 2 ^ 64 - 1 }
-    requires received { level.received < 2 ^ 64 - 1 }
-    ensures { result ≡ with_case port level case outcome }
-{
-    match (case, outcome) {
-        (Case::Send(on, _value), Outcome::Sent) if on.0 == port.0 => Level {
-            sent: level.sent + 1,
-            received: level.received,
-        },
-        (Case::Recv(on), Outcome::Got(_value)) if on.0 == port.0 => Level {
-            sent: level.sent,
-            received: level.received + 1,
-        },
-        _ => level,
-    }
-}
-
 /// The level with what is told here.
-pub(crate) fn after(entries: &ShortEntries, port: Port, level: Level, told: &Told) -> Level
+fn after(entries: &ShortEntries, port: Port, level: Level, told: &Told) -> Level
     requires sent { level.sent < 2 ^ 64 - 1 }
     requires received { level.received < 2 ^ 64 - 1 }
     ensures value { result ≡ after entries.now port level told.now }
     ensures sent { result.sent ≤ level.sent + 1 }
     ensures received { result.received ≤ level.received + 1 }
 {
-    let What::Fired { case, outcome } = told.event.what else {
-        return level;
-    };
-    match entries.case_at(told.asked as usize, case) {
-        Some(case) => with_case(port, level, case, outcome),
-        None => level,
-    }
-}
-
-/// The level of a port on which nothing was sent.
-pub(crate) fn empty() -> Level
-    ensures { result ≡ empty }
-{
-    Level {
-        sent: 0,
-        received: 0,
+    match move_of(entries, told) {
+        Some(moved) if moved.port.0 == port.0 => level.grown(moved.side),
+        _ => level,
     }
 }
 
@@ -109,7 +77,7 @@ fn add_levels(
         strip,
         from: 0,
         until: None,
-        level: empty(),
+        level: Level::empty(),
     };
     for index in 0..told.len() {
         let told = told.at(index);

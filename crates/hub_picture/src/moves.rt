@@ -6,28 +6,15 @@ ghost use Rattle.std.specs.Prelude.{◌≡◌, ◌<◌, ◌++◌, [], filter, le
 ghost use Rattle.hub_base.specs.declared.value.Port.{Port as PortNumber};
 ghost use Rattle.hub_story.specs.OfPorts.{things_on};
 ghost use Rattle.hub_picture.specs.Drawings.{makes_port};
-ghost use Rattle.hub_picture.specs.Moves.{StandAt, is_told_on, place_on, port_told};
+ghost use Rattle.hub_picture.specs.Moves.{StandAt, is_told_on, place_on};
 
 use hub_base::{MOST_PORTS, Port, What};
 use hub_core::ShortEntries;
-use hub_story::{ByPort, Told};
+use hub_story::{ByPort, Told, move_of};
 use std::alloc::{AllocError, Global};
 use std::marker::Model;
 
-/// The port of the case that fired, if one did.
-fn port_told(entries: &ShortEntries, told: &Told) -> Option<Port>
-    ensures { result ≡ port_told entries.now told.now }
-{
-    match told.event.what {
-        What::Fired { case, .. } => match entries.case_at(told.asked as usize, case) {
-            Some(case) => Some(case.port()),
-            None => None,
-        },
-        _ => None,
-    }
-}
-
-/// Takes in the place of what is told next, where it is told of a port.
+/// Takes in the place of what is told next, where a value moved.
 fn note(
     all: &mut ByPort<u32>,
     entries: &ShortEntries,
@@ -37,10 +24,10 @@ fn note(
     ensures { OnOk result ((q : PortNumber) → things_on all.new q
         ≡ things_on all.old q ++ place_on entries.now q told.now place) }
 {
-    let Some(port) = port_told(entries, told) else {
+    let Some(moved) = move_of(entries, told) else {
         return Ok(());
     };
-    all.push(port, place)?;
+    all.push(moved.port, place)?;
     Ok(())
 }
 

@@ -11,7 +11,7 @@ ghost use Rattle.hub_picture.specs.Pieces.{Appends, aim_text, behind_text, end_t
 use crate::label::{Label, end_class};
 use crate::pen::{Pen, put_each};
 use hub_base::{Case, Edition, Entry, Event, NoMemory, Port, Value, What};
-use hub_story::Told;
+use hub_story::{Mover, Told};
 use hub_text::{write_entry, write_event, write_number};
 use std::alloc::AllocError;
 
@@ -34,7 +34,7 @@ pub(crate) enum Piece<'a> {
     /// Until which step something goes on.
     Until(Option<u32>),
     /// Who moved a value, and by which step.
-    Mover(Option<Told>),
+    Mover(Option<Mover>),
     /// What a case waits for.
     Aim(Case),
     /// The class of a label.
@@ -116,13 +116,13 @@ fn put_until(out: &mut Vec<u8>, until: Option<u32>) -> Result<(), AllocError>
 }
 
 /// Appends who moved a value, and by which step.
-fn put_mover(out: &mut Vec<u8>, mover: Option<Told>) -> Result<(), AllocError>
+fn put_mover(out: &mut Vec<u8>, mover: Option<Mover>) -> Result<(), AllocError>
     ensures { Appends out.old out.new (mover_text mover) result }
 {
     match mover {
-        Some(told) => {
-            put_numbered(out, b"P", told.event.pid.0.into())?;
-            put_numbered(out, b" at step ", u64::from(told.by) + 1)
+        Some(mover) => {
+            put_numbered(out, b"P", mover.pid.0.into())?;
+            put_numbered(out, b" at step ", u64::from(mover.by) + 1)
         }
         None => put(out, b"nobody"),
     }
@@ -215,7 +215,7 @@ impl Pen<Piece<'_>> for Pieces {
             Piece::Tells(event) => put_event(out, event),
             Piece::End(ended) => put_end(out, *ended),
             Piece::Until(until) => put_until(out, *until),
-            Piece::Mover(told) => put_mover(out, *told),
+            Piece::Mover(mover) => put_mover(out, *mover),
             Piece::Aim(case) => put_aim(out, *case),
             Piece::Class(label) => put_class(out, *label),
             Piece::Ending(what) => put(out, end_class(*what)),

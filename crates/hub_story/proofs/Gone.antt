@@ -1,7 +1,7 @@
 -- Who received from each port, and who has left, after one event more.
 use Rattle.std.proofs.Common.{◌≡◌, ◌<◌, ◌≤◌, ◌+◌, ◌==◌, ◌&&◌, ◌||◌, ℕ, Bool, true, false, not, cond, arith, List, [], ◌∷◌, ◌++◌}
-use Rattle.std.proofs.Common.{refl, ap, ◌∙◌, sym, append-nil, filter, length, map, nat_lt, subst, take, get_or, Option, None, slice_get, slice_index_or}
-use Rattle.std.specs.List.{filter_map, list_all, list_any}
+use Rattle.std.proofs.Common.{refl, ap, ◌∙◌, sym, append-nil, filter, length, map, nat_lt, subst, take, get_or, Option, None, Some, slice_get, slice_index_or}
+use Rattle.std.specs.List.{cons_option, filter_map, list_all, list_any}
 use Rattle.std.specs.Option.{option_and_then, option_map, option_map_or}
 use Rattle.std.proofs.lemmas.Bool.{eqb-true}
 use Rattle.std.proofs.lemmas.List.{map-append}
@@ -9,20 +9,26 @@ use Rattle.std.proofs.lemmas.List.Elements.{filter_map-append}
 use Rattle.std.proofs.lemmas.List.Folds.{list_all-append}
 use Rattle.std.proofs.lemmas.List.Sums.{fold-append}
 use Rattle.hub_base.specs.declared.value.Port.{Port}
+use Rattle.hub_base.specs.declared.value.Value.{Value}
 use Rattle.hub_base.specs.Entry.{Entry}
 use Rattle.hub_base.specs.declared.event.What.{What}
 use Rattle.hub_base.specs.declared.event.What.TheVariants as what
 use Rattle.hub_base.specs.Values.{cases_at, got_on, of_what}
+use Rattle.hub_parts.specs.declared.side.Side.{Side}
+use Rattle.hub_parts.specs.declared.side.Side.TheVariants as side
+use Rattle.hub_story.specs.declared.moves.Move.{Move}
 use Rattle.hub_story.specs.declared.told.Told.{Told}
 use Rattle.hub_story.specs.declared.moved.Moved.{Moved}
 use Rattle.hub_story.specs.declared.receivers.Receivers.{Receivers as Noted}
 use Rattle.hub_story.specs.Leavers.{is_done, is_told_to, leavers, with_leaver}
 use Rattle.hub_story.specs.Levels.{told_by}
 use Rattle.hub_story.specs.Lives.{life, reopened, reopens, with_life}
+use Rattle.hub_story.specs.Moves.{got_from, is_same, move_of, value_at}
 use Rattle.hub_story.specs.OfPorts.{one_of, things_on}
 use Rattle.hub_story.specs.Passing.{moved_by, receives}
 use Rattle.hub_story.specs.Receivers.{AreReceivers, are_gone, begun, gone_from, got_there, receiver_by, receivers}
 use Rattle.hub_story.proofs.Filters.{filter-take}
+use Rattle.hub_story.proofs.OneSide.{moved-on}
 
 abbrev pid_of : Moved → ℕ
 pid_of m = m.told.event.pid.0
@@ -56,6 +62,27 @@ done-moves-nothing es t p is = by t.event.what refl
     by what.Stalled same = ap at (sym same)
     by what.Cancelled same = ap at (sym same)
     by (what.Fault f) same = ap at (sym same)
+
+-- who received by an event, if it tells of that
+pub receiver-is : (es : List Entry) (t : Told) (p : Port) → receiver_by es t p ≡ got_there p (got_from (move_of es t)) t.event.pid.0
+receiver-is es t p = ap at (moved-on side.Recv p (cases_at es t.asked) t.event.what) ∙ by (move_of es t)
+  where
+    at : Option Value → List ℕ
+    at o = map pid_of (cons_option (option_map (λ v. record { told = t; value = v }) o) [])
+
+    of-side : (m : Move) (s : Side) →
+        at (cond (is_same side.Recv s && (m.port.0 == p.0)) (Some m.value) None)
+        ≡ got_there p (cond (is_same side.Recv s) (Some m.port) None) t.event.pid.0
+    of-side m side.Send = refl
+    of-side m side.Recv = on (m.port.0 == p.0)
+      where
+        on : (b : Bool) → at (cond b (Some m.value) None) ≡ cond b (t.event.pid.0 ∷ []) []
+        on true = refl
+        on false = refl
+
+    by : (o : Option Move) → at (option_and_then (value_at side.Recv p) o) ≡ got_there p (got_from o) t.event.pid.0
+    by None = refl
+    by (Some m) = of-side m m.side
 
 -- who is among them already adds nothing
 known-already : (test : ℕ → Bool) (n : ℕ) (xs : List ℕ) → list_any (λ y. y == n) xs ≡ true → list_all test xs ≡ list_all test (xs ++ n ∷ [])
@@ -116,29 +143,6 @@ receivers-next es before t port old new begun_pids was here begins received left
 
 pub nobody-yet : (es : List Entry) (noted : Noted) → ((p : Port) → things_on noted.pids p ≡ []) → noted.left.items ≡ [] → AreReceivers es [] noted
 nobody-yet es noted none left = record { receivers = λ p test. ap (list_all test) (none p); left = left }
-
--- ---- those by a step
-abbrev is_by : ℕ → Told → Bool
-is_by step t = nat_lt t.by (step + 1)
-
-pub by-then : (es : List Entry) (all : List Told) (i step : ℕ) (d : Told) (new : Noted) → i < length all → (get_or all i d).by ≤ step →
-    AreReceivers es (told_by (step + 1) (take i all) ++ get_or all i d ∷ []) new → AreReceivers es (told_by (step + 1) (take (i + 1) all)) new
-by-then es all i step d new below early so =
-    subst (λ l. AreReceivers es l new)
-    (ap (λ l. told_by (step + 1) (take i all) ++ l) (sym (one (get_or all i d) (omega (arith, early)))) ∙ sym (filter-take (is_by step) all i d below)) so
-  where
-    one : (t : Told) → t.by < step + 1 → filter (is_by step) (t ∷ []) ≡ t ∷ []
-    one t below = let hit : nat_lt t.by (step + 1) ≡ true = grind arith in rw hit refl
-
-pub not-by-then : (es : List Entry) (all : List Told) (i step : ℕ) (d : Told) (noted : Noted) → i < length all → step < (get_or all i d).by →
-    AreReceivers es (told_by (step + 1) (take i all)) noted → AreReceivers es (told_by (step + 1) (take (i + 1) all)) noted
-not-by-then es all i step d noted below late so =
-    subst (λ l. AreReceivers es l noted)
-    (sym (append-nil (told_by (step + 1) (take i all)))
-    ∙ ap (λ l. told_by (step + 1) (take i all) ++ l) (sym (none (get_or all i d) late)) ∙ sym (filter-take (is_by step) all i d below)) so
-  where
-    none : (t : Told) → step < t.by → filter (is_by step) (t ∷ []) ≡ []
-    none t above = let miss : nat_lt t.by (step + 1) ≡ false = grind arith in rw miss refl
 
 -- ---- of whom any test has the same answer, they are gone or not
 none-of : (ns : List ℕ) → (length ns == 0) ≡ list_all (λ n. false) ns

@@ -1,3 +1,4 @@
+pub mod OneSide
 pub mod Stories
 pub mod Passages
 pub mod InTime
@@ -14,3 +15,6 @@ pub mod Editions
 pub mod OfPorts
 pub mod Clocks
 pub mod Gone
+pub mod Movers
+pub mod Counted
+pub mod Pushed

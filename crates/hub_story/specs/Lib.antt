@@ -1,6 +1,7 @@
 pub mod Told
 pub mod Clock
 pub mod LastCalls
+pub mod Moves
 pub mod Passing
 pub mod Waiting
 pub mod Leavers
@@ -14,4 +15,7 @@ pub mod Stories
 pub mod Laws
 pub mod OfPorts
 pub mod Receivers
+pub mod LastMoves
+pub mod Whom
+pub mod PortMoves
 pub mod StoryRows

@@ -6,15 +6,20 @@
 
 mod by_port;
 mod clock;
+mod counts;
 mod ends;
 mod exits;
+mod guess;
 mod last_calls;
+mod last_moves;
 mod laws;
 mod levels;
 mod lives;
 mod moved;
+mod moves;
 mod outside;
 mod passing;
+mod port_moves;
 mod receivers;
 mod story;
 mod telling;
@@ -23,16 +28,21 @@ mod window;
 
 pub use by_port::{ByPort, PORT_NUMBERS};
 pub use clock::clock_of;
+pub use counts::{count_at, count_one};
 pub use exits::{comes_back, leaves};
+pub use guess::whom;
+pub use last_moves::{AtPort, LastMoves, Mover};
 pub use laws::{
     entries_end_once, events_are_told, levels_are_told, passages_are_in_time, passages_are_told,
     sends_are_told, waiting_is_told,
 };
-pub use levels::Level;
+pub use levels::{Level, Levels};
 pub use lives::{most_room, reopened_port};
 pub use moved::{Moved, Passage};
+pub use moves::{Move, move_of};
 pub use outside::{Outsider, any_told_to};
-pub use passing::{Side, got_port, moved_by, sent_port};
+pub use passing::moved_by;
+pub use port_moves::{PortMove, PortMoves};
 pub use receivers::Receivers;
 pub use story::{Story, story_of};
 pub use told::Told;

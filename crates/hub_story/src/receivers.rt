@@ -1,22 +1,22 @@
 //! Who received from each port in its present life, and who has left.
 
-ghost use Rattle.std.specs.Prelude.{◌≡◌, ◌+◌, ◌∷◌, ◌++◌, ℕ, Bool, List, [], IfOk, OnOk};
+ghost use Rattle.std.specs.Prelude.{◌≡◌, ◌∷◌, ◌++◌, ℕ, Bool, List, [], IfOk, OnOk};
 ghost use Rattle.std.specs.List.{list_all, list_any};
 ghost use Rattle.hub_base.specs.declared.value.Port.{Port as PortNumber};
 ghost use Rattle.hub_base.specs.Entry.{Entry};
 ghost use Rattle.hub_story.specs.declared.told.Told.{Told as Event};
 ghost use Rattle.hub_story.specs.Leavers.{is_told_to};
-ghost use Rattle.hub_story.specs.Levels.{told_by};
+ghost use Rattle.hub_story.specs.Moves.{move_of};
 ghost use Rattle.hub_story.specs.OfPorts.{things_on};
-ghost use Rattle.hub_story.specs.Receivers.{AreReceivers, are_gone, begun, got_there, receiver_by};
+ghost use Rattle.hub_story.specs.Receivers.{AreReceivers, are_gone, begun, got_there};
 
 use crate::Told;
 use crate::by_port::ByPort;
 use crate::exits::note_leaver;
 use crate::lives::reopened_port;
+use crate::moves::{Move, got_from};
 use crate::outside::any_told_to;
-use crate::passing::got_port;
-use hub_base::{Port, What};
+use hub_base::Port;
 use hub_core::ShortEntries;
 use std::alloc::{AllocError, Global};
 
@@ -27,16 +27,6 @@ pub struct Receivers {
     pub pids: ByPort<u8>,
     /// The exits of those who have left, in order.
     pub left: Vec<Told>,
-}
-
-/// From which port a value is told to have been received.
-fn port_of(entries: &ShortEntries, told: &Told) -> Option<Port>
-    ensures { (p : PortNumber) → receiver_by entries.now told.now p ≡ got_there p result told.now.event.pid.0 }
-{
-    let What::Fired { case, outcome } = told.event.what else {
-        return None;
-    };
-    got_port(entries.case_at(told.asked as usize, case)?, outcome)
 }
 
 /// Takes in that the process received from this port, if there is one.
@@ -71,7 +61,7 @@ fn have_left(left: &[Told], pids: &[u8]) -> bool
 
 impl Receivers {
     /// Nobody received, and nobody has left.
-    pub fn new(alloc: Global) -> Result<Receivers, AllocError>
+    pub(crate) fn new(alloc: Global) -> Result<Receivers, AllocError>
         ensures { (es : List Entry) → IfOk result (AreReceivers es []) }
     {
         Ok(Receivers {
@@ -80,43 +70,25 @@ impl Receivers {
         })
     }
 
-    /// Takes in the next event, by which a value was received from this port, if there is one.
-    pub fn note(
+    /// Takes in the next event, by which this moved, if anything did.
+    pub(crate) fn note(
         &mut self,
         entries: &ShortEntries,
         told: &Told,
-        port: Option<Port>,
+        moved: Option<Move>,
     ) -> Result<(), AllocError>
-        requires { (p : PortNumber) → receiver_by entries.now told.now p ≡ got_there p port told.now.event.pid.0 }
+        requires { moved ≡ move_of entries.now told.now }
         ensures { OnOk result ((before : List Event) → AreReceivers entries.now before self.old
             → AreReceivers entries.now (before ++ told.now ∷ []) self.new) }
     {
         note_life(&mut self.pids, entries, told);
-        note_receiver(&mut self.pids, port, told.event.pid.0)?;
+        note_receiver(&mut self.pids, got_from(moved), told.event.pid.0)?;
         note_leaver(&mut self.left, entries, told)?;
         Ok(())
     }
 
-    /// Those by this step, of all that is told.
-    pub fn until(
-        alloc: Global,
-        entries: &ShortEntries,
-        told: &[Told],
-        step: u32,
-    ) -> Result<Receivers, AllocError>
-        ensures { IfOk result (AreReceivers entries.now (told_by (step + 1) told.now)) }
-    {
-        let mut noted = Receivers::new(alloc)?;
-        for told in told {
-            if told.by <= step {
-                noted.note(entries, told, port_of(entries, told))?;
-            }
-        }
-        Ok(noted)
-    }
-
     /// Whether somebody received from the port in its present life, and all who did have left.
-    pub fn are_gone(&self, port: Port) -> bool
+    pub(crate) fn are_gone(&self, port: Port) -> bool
         ensures { result ≡ are_gone self.now.left.items (things_on self.now.pids port) }
     {
         let pids = self.pids.on(port);

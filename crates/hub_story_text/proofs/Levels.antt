@@ -100,8 +100,8 @@ fold-next f b xs i d below =
 
 -- ---- the steps by which values moved
 -- those by which these values did
-abbrev pub steps_of : List Moved → List ℕ
-steps_of ms = map (λ m. m.told.by) ms
+abbrev pub moved_by_steps : List Moved → List ℕ
+moved_by_steps ms = map (λ m. m.told.by) ms
 
 lower-up : (low high : ℕ) (xs : List ℕ) → IsUp high xs → low ≤ high → IsUp low xs
 lower-up low high [] up h = tt
@@ -109,25 +109,25 @@ lower-up low high (x ∷ xs) up h = (omega (arith, up.0, h), up.1)
 
 -- they never go back
 pub steps-up : (pick : Option Case → Outcome → Option Value) (es : List Entry) (from : ℕ) (ts : List Told) → IsFrom from ts →
-    IsUp from (steps_of (filter_map (moved_by pick es) ts))
+    IsUp from (moved_by_steps (filter_map (moved_by pick es) ts))
 steps-up pick es from [] so = tt
 steps-up pick es from (t ∷ ts) so = by (of_what pick (cases_at es t.asked) t.event.what) refl (steps-up pick es t.by ts so.1)
   where
-    by : (o : Option Value) → of_what pick (cases_at es t.asked) t.event.what ≡ o → IsUp t.by (steps_of (filter_map (moved_by pick es) ts)) →
-        IsUp from (steps_of (filter_map (moved_by pick es) (t ∷ ts)))
-    by None e rest = rw e (lower-up from t.by (steps_of (filter_map (moved_by pick es) ts)) rest so.0)
+    by : (o : Option Value) → of_what pick (cases_at es t.asked) t.event.what ≡ o → IsUp t.by (moved_by_steps (filter_map (moved_by pick es) ts)) →
+        IsUp from (moved_by_steps (filter_map (moved_by pick es) (t ∷ ts)))
+    by None e rest = rw e (lower-up from t.by (moved_by_steps (filter_map (moved_by pick es) ts)) rest so.0)
     by (Some v) e rest = rw e (so.0, rest)
 
 -- those below a limit are of what is told by then
 pub steps-told : (pick : Option Case → Outcome → Option Value) (es : List Entry) (limit : ℕ) (ts : List Told) →
-    count_below limit (steps_of (filter_map (moved_by pick es) ts)) ≡ length (filter_map (moved_by pick es) (told_by limit ts))
+    count_below limit (moved_by_steps (filter_map (moved_by pick es) ts)) ≡ length (filter_map (moved_by pick es) (told_by limit ts))
 steps-told pick es limit [] = refl
 steps-told pick es limit (t ∷ ts) =
     by (of_what pick (cases_at es t.asked) t.event.what) refl (nat_lt t.by limit) refl (steps-told pick es limit ts)
   where
     by : (o : Option Value) → of_what pick (cases_at es t.asked) t.event.what ≡ o → (b : Bool) → nat_lt t.by limit ≡ b →
-        count_below limit (steps_of (filter_map (moved_by pick es) ts)) ≡ length (filter_map (moved_by pick es) (told_by limit ts)) →
-        count_below limit (steps_of (filter_map (moved_by pick es) (t ∷ ts)))
+        count_below limit (moved_by_steps (filter_map (moved_by pick es) ts)) ≡ length (filter_map (moved_by pick es) (told_by limit ts)) →
+        count_below limit (moved_by_steps (filter_map (moved_by pick es) (t ∷ ts)))
         ≡ length (filter_map (moved_by pick es) (told_by limit (t ∷ ts)))
     by None e true h rest = rw (e, h, e) rest
     by None e false h rest = rw (e, h) rest
@@ -153,14 +153,14 @@ step-parts place from (t ∷ ts) so = by (nat_lt t.by place) refl (t.by == place
 
 -- each of those values moved by it
 came-at : (pick : Option Case → Outcome → Option Value) (es : List Entry) (place : ℕ) (ts : List Told) →
-    AllByRecursion (λ s. s ≡ place) (steps_of (filter_map (moved_by pick es) (came_by place ts)))
+    AllByRecursion (λ s. s ≡ place) (moved_by_steps (filter_map (moved_by pick es) (came_by place ts)))
 came-at pick es place [] = tt
 came-at pick es place (t ∷ ts) =
     by (t.by == place) refl (of_what pick (cases_at es t.asked) t.event.what) refl (came-at pick es place ts)
   where
     by : (b : Bool) → (t.by == place) ≡ b → (o : Option Value) → of_what pick (cases_at es t.asked) t.event.what ≡ o →
-        AllByRecursion (λ s. s ≡ place) (steps_of (filter_map (moved_by pick es) (came_by place ts))) →
-        AllByRecursion (λ s. s ≡ place) (steps_of (filter_map (moved_by pick es) (came_by place (t ∷ ts))))
+        AllByRecursion (λ s. s ≡ place) (moved_by_steps (filter_map (moved_by pick es) (came_by place ts))) →
+        AllByRecursion (λ s. s ≡ place) (moved_by_steps (filter_map (moved_by pick es) (came_by place (t ∷ ts))))
     by true e None f rest = rw (e, f) rest
     by true e (Some v) f rest = rw (e, f) (eqb-true t.by place e, rest)
     by false e o f rest = rw e rest
@@ -202,7 +202,7 @@ more-moved : (pick : Option Case → Outcome → Option Value) (es : List Entry)
 more-moved pick es all n so =
     ap (filter_map (moved_by pick es)) (step-parts n 0 all so) ∙ filter_map-append (moved_by pick es) (told_by n all) (came_by n all)
 
-no-more : (es : List Entry) (all : List Told) (p : Port) (n : ℕ) → IsFrom 0 all → steps_of (sends es (came_by n all) p) ≡ [] →
+no-more : (es : List Entry) (all : List Told) (p : Port) (n : ℕ) → IsFrom 0 all → moved_by_steps (sends es (came_by n all) p) ≡ [] →
     held_by es all p (n + 1) ≤ (fullest es all p n).most
 no-more es all p n so none =
     let few : held_by es all p n ≤ (fullest es all p n).most = most-so-far es all p n so in
@@ -216,15 +216,15 @@ no-more es all p n so none =
 
 -- ---- so the steps of the sends tell it
 fullest-sends : (es : List Entry) (all : List Told) (p : Port) (n : ℕ) → IsFrom 0 all →
-    fullest es all p n ≡ fold (λ f s. fuller f s (held_by es all p (s + 1))) never_filled (steps_of (sends es (told_by n all) p))
+    fullest es all p n ≡ fold (λ f s. fuller f s (held_by es all p (s + 1))) never_filled (moved_by_steps (sends es (told_by n all) p))
 fullest-sends es all p zero so =
-    sym (ap (λ l. fold (λ f s. fuller f s (held_by es all p (s + 1))) never_filled (steps_of (sends es l p))) (none-before 0 all so))
+    sym (ap (λ l. fold (λ f s. fuller f s (held_by es all p (s + 1))) never_filled (moved_by_steps (sends es l p))) (none-before 0 all so))
 fullest-sends es all p (suc n) so =
     let took : Fullest → ℕ → Fullest = λ f s. fuller f s (held_by es all p (s + 1)) in
-    let earlier = steps_of (sends es (told_by n all) p) in
-    let now = steps_of (sends es (came_by n all) p) in
-    let parts : steps_of (sends es (told_by (suc n) all) p) ≡ earlier ++ now =
-    ap steps_of (more-moved (sent_on p) es all n so) ∙ map-append (λ (m : Moved). m.told.by) (sends es (told_by n all) p) (sends es (came_by n all) p) in
+    let earlier = moved_by_steps (sends es (told_by n all) p) in
+    let now = moved_by_steps (sends es (came_by n all) p) in
+    let parts : moved_by_steps (sends es (told_by (suc n) all) p) ≡ earlier ++ now =
+    ap moved_by_steps (more-moved (sent_on p) es all n so) ∙ map-append (λ (m : Moved). m.told.by) (sends es (told_by n all) p) (sends es (came_by n all) p) in
     ap (λ k. fuller (fullest es all p n) n (held_by es all p k)) (sym (add-one n))
     ∙ one-step (λ s. held_by es all p (s + 1)) n now (fullest es all p n) (came-at (sent_on p) es n all) (no-more es all p n so)
     ∙ ap (λ f. fold took f now) (fullest-sends es all p n so) ∙ sym (fold-append took never_filled earlier now)
@@ -235,14 +235,14 @@ same-fold f g same b [] = refl
 same-fold f g same b (x ∷ xs) = same-fold f g same (f b x) xs ∙ ap (λ c. fold g c xs) (same b x)
 
 pub fullest-is : (es : List Entry) (all : List Told) (p : Port) (n : ℕ) → IsFrom 0 all → told_by n all ≡ all →
-    fullest_of (steps_of (sends es all p)) (steps_of (receives es all p)) ≡ fullest es all p n
+    fullest_of (moved_by_steps (sends es all p)) (moved_by_steps (receives es all p)) ≡ fullest es all p n
 fullest-is es all p n so whole =
-    let sent = steps_of (sends es all p) in
-    let received = steps_of (receives es all p) in
+    let sent = moved_by_steps (sends es all p) in
+    let received = moved_by_steps (receives es all p) in
     same-fold (fuller_by sent received) (λ f s. fuller f s (held_by es all p (s + 1)))
     (λ f s.
     ap (λ k. fuller f s (k - count_below (s + 1) received)) (steps-told (sent_on p) es (s + 1) all)
     ∙ ap (λ k. fuller f s (sent_by es all p (s + 1) - k)) (steps-told (got_on p) es (s + 1) all))
     never_filled sent
     ∙ sym (fullest-sends es all p n so
-    ∙ ap (λ l. fold (λ f s. fuller f s (held_by es all p (s + 1))) never_filled (steps_of (sends es l p))) whole)
+    ∙ ap (λ l. fold (λ f s. fuller f s (held_by es all p (s + 1))) never_filled (moved_by_steps (sends es l p))) whole)

@@ -2,7 +2,6 @@ pub mod Chains
 pub mod StepLines
 pub mod Closings
 pub mod Groups
-pub mod Movers
 pub mod Table
 pub mod StepTexts
 pub mod Written

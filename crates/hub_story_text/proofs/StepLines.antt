@@ -12,7 +12,7 @@ use Rattle.hub_base.specs.Entry.{Entry}
 use Rattle.hub_story.specs.declared.told.Told.{Told}
 use Rattle.hub_story_text.specs.declared.ends.Ending.{Ending}
 use Rattle.hub_story_text.specs.declared.ends.Ending.TheVariants.{Frees, Cancels, TimesOut, Wakes, Stalls}
-use Rattle.hub_story_text.specs.declared.last_moves.AtPort.{AtPort}
+use Rattle.hub_story.specs.declared.last_moves.AtPort.{AtPort}
 use Rattle.hub_story_text.specs.EndsText.{ending_word, ends_words, step_number, with_ended}
 use Rattle.hub_story_text.specs.PortText.{made_line, port_line}
 use Rattle.hub_story_text.specs.WaiterText.{left_words, waiter_words, waiters_words}

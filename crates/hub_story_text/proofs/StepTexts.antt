@@ -12,22 +12,18 @@ use Rattle.hub_base.specs.Entry.{Entry}
 use Rattle.hub_story.specs.declared.told.Told.{Told}
 use Rattle.hub_story.specs.Leavers.{leavers}
 use Rattle.hub_story.specs.Levels.{told_by}
-use Rattle.hub_story.specs.OfPorts.{things_on}
-use Rattle.hub_story.specs.Receivers.{are_gone}
 use Rattle.hub_story.specs.Waiting.{is_stalled}
 use Rattle.hub_base.specs.Values.{cases_at}
-use Rattle.hub_story_text.specs.declared.last_moves.AtPort.{AtPort}
-use Rattle.hub_story_text.specs.declared.last_moves.Mover.{Mover}
-use Rattle.hub_story_text.specs.declared.last_moves.LastMoves.{LastMoves}
+use Rattle.hub_story.specs.declared.last_moves.AtPort.{AtPort}
+use Rattle.hub_story.specs.declared.last_moves.LastMoves.{LastMoves}
 use Rattle.hub_story.specs.declared.window.Window.{Window}
 use Rattle.hub_story_text.specs.Clock.{to_others}
-use Rattle.hub_story_text.specs.LastMoves.{AreLast, known_at, known_of, last_sender, last_receiver, mover_at}
+use Rattle.hub_story.specs.LastMoves.{AreLast, known_at, known_of}
 use Rattle.hub_story_text.specs.StoryText.{came_by, stall_heading, steps_text, step_text, who_waits}
 use Rattle.hub_story_text.specs.declared.paint.Paint.{Paint}
 use Rattle.hub_story_text.specs.Paint.{painted_line}
 use Rattle.hub_story_text.specs.WaiterText.{case_words, gone_words, left_words, port_words, waiter_words, waiters_words, who_words}
 use Rattle.hub_story.specs.Windows.{has}
-use Rattle.hub_story.proofs.Gone.{gone-is}
 use Rattle.hub_story_text.proofs.Groups.{stalled-came}
 
 -- ---- the same movers give the same words
@@ -48,16 +44,6 @@ same-waiters nobody heading es k k' h left (t ∷ ts) =
     (λ t. ap (λ l. who_words (codes " waits since step ") t ++ l)
     (same-flat (case_words k) (case_words k') (same-case k k' h) (cases_at es t.asked))) (t ∷ ts))
 
-abbrev at : Option Mover → Option Mover → Bool → AtPort
-at s r g = record { sender = s; receiver = r; gone = g }
-
--- what the tables tell of a port
-pub known-is : (es : List Entry) (until : List Told) (moves : LastMoves) → AreLast es until moves → (p : Port) → known_at moves p ≡ known_of es until p
-known-is es until moves so p =
-    ap (λ s. at s (mover_at moves.received.items p) (are_gone moves.receivers.left.items (things_on moves.receivers.pids p))) (so.sent p)
-    ∙ ap (λ r. at (last_sender es until p) r (are_gone moves.receivers.left.items (things_on moves.receivers.pids p))) (so.received p)
-    ∙ ap (at (last_sender es until p) (last_receiver es until p)) (gone-is es until moves.receivers so.receivers p)
-
 -- what the tables tell
 pub waiters-told : (nobody heading : List ℕ) (clock : Option Pid) (es : List Entry) (until : List Told) (moves : LastMoves) → AreLast es until moves →
     (ts : List Told) →
@@ -65,7 +51,7 @@ pub waiters-told : (nobody heading : List ℕ) (clock : Option Pid) (es : List E
     ≡ who_waits nobody heading clock es until ts
 waiters-told nobody heading clock es until moves so ts =
     ap (λ left. waiters_words nobody heading es (known_at moves) left (to_others clock ts)) so.receivers.left
-    ∙ same-waiters nobody heading es (known_at moves) (known_of es until) (known-is es until moves so) (leavers es until) (to_others clock ts)
+    ∙ same-waiters nobody heading es (known_at moves) (known_of es until) so.known (leavers es until) (to_others clock ts)
 
 -- ---- one step more
 -- what is shown of a step where this says so

@@ -1,8 +1,9 @@
 -- How full a port was at most after a step, and when first.
-use Rattle.std.specs.Prelude.{ℕ, zero, suc, ◌+◌, ◌-◌, ◌≤◌, nat_lt, List, [], ◌∷◌, filter, length, if◌then◌else◌}
+use Rattle.std.specs.Prelude.{ℕ, zero, suc, ◌+◌, ◌-◌, ◌≤◌, nat_lt, List, [], ◌∷◌, filter, length, map, if◌then◌else◌}
 use Rattle.std.specs.List.{fold}
 use Rattle.hub_base.specs.declared.value.Port.{Port}
 use Rattle.hub_base.specs.Entry.{Entry}
+use Rattle.hub_story.specs.declared.port_moves.PortMove.{PortMove}
 use Rattle.hub_story.specs.declared.told.Told.{Told}
 use Rattle.hub_story.specs.Levels.{sent_by, received_by}
 use Rattle.hub_story_text.specs.declared.fullest.Fullest.{Fullest}
@@ -24,6 +25,10 @@ fullest es all p zero = never_filled
 fullest es all p (suc place) = fuller (fullest es all p place) place (held_by es all p (suc place))
 
 -- ---- by the places of the steps by which values were sent, and of those by which they were received
+-- those of these calls
+abbrev pub steps_of : List PortMove → List ℕ
+steps_of ms = map (λ m. m.by) ms
+
 -- numbers that never go back, from this one on
 abbrev pub IsUp : ℕ → List ℕ → Type 0
 IsUp from [] = Unit {0}

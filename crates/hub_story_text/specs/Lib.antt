@@ -4,8 +4,6 @@ pub mod Writing
 pub mod AnswerText
 pub mod Partners
 pub mod Explained
-pub mod LastMoves
-pub mod PortMoves
 pub mod EndsText
 pub mod LineText
 pub mod Paint

@@ -1,5 +1,5 @@
 -- To which entry the value of an entry went, or from which it came.
-use Rattle.std.specs.Prelude.{◌≡◌, ◌<◌, ◌==◌, ℕ, ◌+◌, zero, suc, min, List, [], ◌∷◌, ◌++◌, count_by, length, find}
+use Rattle.std.specs.Prelude.{◌≡◌, ◌<◌, ◌==◌, ℕ, ◌+◌, zero, suc, min, List, [], ◌∷◌, ◌++◌, count_by, length, find, map}
 use Rattle.std.specs.Prelude.{Option, None, Some, is_some, slice_get, slice_index_or, slice_set, Bool, true, false, if◌then◌else◌}
 use Rattle.std.specs.List.{flat_map}
 use Rattle.std.specs.Option.{option_map}
@@ -7,6 +7,7 @@ use Rattle.hub_base.specs.Entry.{Entry}
 use Rattle.hub_base.specs.declared.event.What.{What}
 use Rattle.hub_base.specs.declared.event.What.TheVariants as what
 use Rattle.hub_base.specs.declared.limits.TheConstants.{MOST_PORTS}
+use Rattle.hub_story.specs.declared.port_moves.PortMove.{PortMove}
 use Rattle.hub_story.specs.declared.told.Told.{Told}
 use Rattle.hub_story.specs.declared.moved.Passage.{Passage}
 use Rattle.hub_story.specs.Passing.{passages}
@@ -35,6 +36,16 @@ ways_from es all number (suc n) = ways_of es all number ++ ways_from es all (num
 -- a hub has no more ports than the most
 abbrev pub ways : List Entry → List Told → List (ℕ × ℕ)
 ways es all = ways_from es all 1 (min (ports_made all) MOST_PORTS)
+
+-- the places of these calls
+abbrev pub places_of : List PortMove → List ℕ
+places_of ms = map (λ m. m.place) ms
+
+-- each of the first places with the second that stands beside it, both ways
+abbrev pub paired : List ℕ → List ℕ → List (ℕ × ℕ)
+paired [] ys = []
+paired (x ∷ xs) [] = []
+paired (x ∷ xs) (y ∷ ys) = (x, y) ∷ (y, x) ∷ paired xs ys
 
 abbrev pub partner_in : List (ℕ × ℕ) → ℕ → Option ℕ
 partner_in pairs place = option_map (λ w. w.1) (find (λ w. w.0 == place) pairs)

@@ -15,7 +15,7 @@ use Rattle.hub_story_text.specs.declared.paint.Paint.{Paint}
 use Rattle.hub_story_text.specs.declared.paint.Paint.TheVariants.{Plain}
 use Rattle.hub_story.specs.Clock.{clock_of}
 use Rattle.hub_story_text.specs.Clock.{to_others}
-use Rattle.hub_story_text.specs.LastMoves.{known_of}
+use Rattle.hub_story.specs.LastMoves.{known_of}
 use Rattle.hub_story_text.specs.OutsideText.{outside_text}
 use Rattle.hub_story_text.specs.Paint.{painted_line}
 use Rattle.hub_story_text.specs.PortText.{made_line}

@@ -8,12 +8,12 @@ use Rattle.hub_base.specs.declared.case.Case.TheVariants.{Send, Recv}
 use Rattle.hub_base.specs.Entry.{Entry}
 use Rattle.hub_story.specs.declared.told.Told.{Told}
 use Rattle.hub_base.specs.Values.{cases_at}
-use Rattle.hub_story_text.specs.declared.last_moves.AtPort.{AtPort}
-use Rattle.hub_story_text.specs.declared.last_moves.Mover.{Mover}
+use Rattle.hub_story.specs.declared.last_moves.AtPort.{AtPort}
+use Rattle.hub_story.specs.declared.last_moves.Mover.{Mover}
 
 abbrev pub mover_words : Option Mover → List ℕ
 mover_words None = codes "nobody"
-mover_words (Some m) = codes "P" ++ decimal m.pid.0 ++ codes " at step " ++ decimal (m.step + 1)
+mover_words (Some m) = codes "P" ++ decimal m.pid.0 ++ codes " at step " ++ decimal (m.asked + 1)
 
 abbrev pub port_words : AtPort → Port → List ℕ
 port_words known p =

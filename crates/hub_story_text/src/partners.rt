@@ -2,13 +2,12 @@
 
 ghost use Rattle.std.specs.Prelude.{◌≡◌, IfOk, length};
 ghost use Rattle.std.specs.List.{fold};
-ghost use Rattle.hub_story_text.specs.Partners.{AreIn, is_made, ports_made, ways, with_way};
-ghost use Rattle.hub_story_text.specs.PortMoves.{AreMoves, paired};
+ghost use Rattle.hub_story.specs.PortMoves.{AreMoves};
+ghost use Rattle.hub_story_text.specs.Partners.{AreIn, is_made, paired, places_of, ports_made, ways, with_way};
 
-use crate::port_moves::{PortMoves, places_on};
 use hub_base::{MOST_PORTS, Port, What};
 use hub_core::ShortJournal;
-use hub_story::{Story, Told};
+use hub_story::{PortMove, PortMoves, Story, Told};
 use std::alloc::{AllocError, Global};
 
 /// Whether the event tells that a port was made.
@@ -39,6 +38,17 @@ fn note_way(table: &mut Vec<Option<u32>>, from: u32, to: u32)
     }
 }
 
+/// The places of these calls, in order.
+fn places_of(alloc: Global, moves: &[PortMove]) -> Result<Vec<u32>, AllocError>
+    ensures { IfOk result (λ places. places.items ≡ places_of moves.now) }
+{
+    let mut places = Vec::new(alloc);
+    for moved in moves {
+        places.push(moved.place)?;
+    }
+    Ok(places)
+}
+
 /// Takes in that the values of the calls at the first places went to those at the second, one by one.
 fn note_pairs(table: &mut Vec<Option<u32>>, sent: &[u32], received: &[u32])
     ensures { table.new.items ≡ fold with_way table.old.items (paired sent.now received.now) }
@@ -63,8 +73,8 @@ pub(crate) fn partners_of(
     let mut table = vec![in alloc; None; journal.entries().len()]?;
     for place in 0..ports_made(&story.told).min(MOST_PORTS) {
         let port = Port(place as u16 + 1);
-        let sent = places_on(alloc, moves.sent.on(port), port)?;
-        let received = places_on(alloc, moves.received.on(port), port)?;
+        let sent = places_of(alloc, moves.sent.on(port))?;
+        let received = places_of(alloc, moves.received.on(port))?;
         note_pairs(&mut table, &sent, &received);
     }
     Ok(table)

@@ -4,18 +4,17 @@ ghost use Rattle.std.specs.Prelude.{◌≡◌, ◌++◌, filter, length, slice_g
 ghost use Rattle.std.specs.List.{flat_map};
 ghost use Rattle.std.specs.Option.{option_map_or};
 ghost use Rattle.hub_story.specs.Levels.{told_by};
+ghost use Rattle.hub_story.specs.PortMoves.{AreMoves};
 ghost use Rattle.hub_story.specs.Stories.{IsFrom};
 ghost use Rattle.hub_story_text.specs.Closers.{is_turn};
-ghost use Rattle.hub_story_text.specs.PortMoves.{AreMoves};
 ghost use Rattle.hub_story_text.specs.PortText.{by_words, cap_words, counts_words, made_line, most_words, opened_at, port_line, turn_words};
 
 use crate::closers::{Turns, turns_of, turns_on};
-use crate::fullest::Fullest;
+use crate::fullest::{Fullest, fullest_on};
 use crate::numbers::{number_of, put_number};
-use crate::port_moves::PortMoves;
 use hub_base::{Port, Step, What};
 use hub_core::{CaseRoom, ShortJournal};
-use hub_story::{Level, Story, Told};
+use hub_story::{Level, PortMoves, Story, Told};
 use std::alloc::AllocError;
 
 /// Appends the capacity with which the entry at this place made a port, or opened it again.
@@ -107,7 +106,7 @@ fn put_port(
     put_number(out, b"port ", port.0.into())?;
     put_cap(out, journal, opened_at(told, reopened))?;
     put_counts(out, moves.level(port))?;
-    put_most(out, moves.fullest(*out.allocator(), port)?)?;
+    put_most(out, fullest_on(*out.allocator(), moves, port)?)?;
     put_by(out, b" made by P", told)?;
     put_turn(out, b" reopened by P", reopened)?;
     put_turn(out, b" closed by P", closed)?;

@@ -6,19 +6,18 @@ ghost use Rattle.hub_story.specs.Stories.{IsFrom};
 ghost use Rattle.hub_story.specs.Waiting.{is_stalled};
 ghost use Rattle.hub_story_text.specs.Clock.{to_others};
 ghost use Rattle.hub_story_text.specs.Explained.{IsExplained, entries_of, told_of};
-ghost use Rattle.hub_story_text.specs.LastMoves.{AreLast, IsWhole, known_at};
+ghost use Rattle.hub_story.specs.LastMoves.{AreLast, IsWhole, known_at};
 ghost use Rattle.hub_story_text.specs.StoryText.{came_by, stall_heading, steps_text};
 ghost use Rattle.hub_story_text.specs.WaiterText.{waiters_words};
 
 use crate::Window;
 use crate::clock::to_others;
 use crate::explained::{Explained, put_painted_line};
-use crate::last_moves::LastMoves;
 use crate::packed_text::PackedText;
 use crate::waiters::put_waiters;
 use hub_base::NoMemory;
 use hub_core::CaseRoom;
-use hub_story::Told;
+use hub_story::{LastMoves, Told};
 use std::alloc::{AllocError, Global};
 
 /// What stands above those whom a step stalled.

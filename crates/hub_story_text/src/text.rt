@@ -3,26 +3,24 @@
 ghost use Rattle.std.specs.Prelude.{◌≡◌, ◌<◌, ◌-◌, ◌^◌, ◌++◌, [], length, IfOk, OnOk};
 ghost use Rattle.hub_story.specs.Stories.{IsStoryOf};
 ghost use Rattle.hub_story_text.specs.Explained.{IsExplained, entries_of, told_of};
-ghost use Rattle.hub_story_text.specs.LastMoves.{AreLast, IsWhole};
+ghost use Rattle.hub_story.specs.LastMoves.{AreLast, IsWhole};
 ghost use Rattle.hub_story_text.specs.Partners.{AreIn, ways};
 ghost use Rattle.hub_story_text.specs.StoryText.{painted_text, ports_text, story_text, text_with};
 
 use crate::Window;
 use crate::clock::{clock_in, to_others};
 use crate::explained::Explained;
-use crate::last_moves::LastMoves;
 use crate::outside::put_outside;
 use crate::packed_text::PackedText;
 use crate::paint::Paint;
 use crate::partners::partners_of;
-use crate::port_moves::PortMoves;
 use crate::ports::put_ports;
 use crate::steps::put_steps;
 use crate::waiters::put_waiters;
 use crate::waits::put_waits;
 use hub_base::NoMemory;
 use hub_core::ShortJournal;
-use hub_story::Story;
+use hub_story::{LastMoves, PortMoves, Story};
 use std::alloc::Global;
 
 const HEADING: &[u8] =

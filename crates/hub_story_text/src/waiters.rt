@@ -2,14 +2,13 @@
 
 ghost use Rattle.std.specs.Prelude.{◌≡◌, ◌++◌, codes, OnOk};
 ghost use Rattle.std.specs.List.{flat_map};
-ghost use Rattle.hub_story_text.specs.LastMoves.{known_at};
+ghost use Rattle.hub_story.specs.LastMoves.{known_at};
 ghost use Rattle.hub_story_text.specs.WaiterText.{case_words, gone_words, left_words, mover_words, port_words, waiter_words, waiters_words, who_words};
 
-use crate::last_moves::{AtPort, LastMoves, Mover};
 use crate::numbers::{number_of, put_number};
 use hub_base::{Case, Port};
 use hub_core::{CaseRoom, ShortEntries};
-use hub_story::Told;
+use hub_story::{AtPort, LastMoves, Mover, Told};
 use std::alloc::AllocError;
 
 /// Appends a process and a step, behind these words.
@@ -20,7 +19,7 @@ fn put_mover(out: &mut Vec<u8>, words: &[u8], mover: Option<Mover>) -> Result<()
     match mover {
         Some(mover) => {
             put_number(out, b"P", mover.pid.0.into())?;
-            put_number(out, b" at step ", number_of(mover.step))
+            put_number(out, b" at step ", number_of(mover.asked))
         }
         None => out.extend_from_slice(b"nobody"),
     }

@@ -7,7 +7,7 @@ use Rattle.hub_story.specs.declared.told.Told.{Told}
 use Rattle.hub_picture.specs.declared.drawing.Drawing.{Drawing}
 use Rattle.hub_picture.specs.declared.waiters.Waiter.{Waiter}
 use Rattle.hub_picture.specs.Pieces.{aim_text, mover_text, joined}
-use Rattle.hub_picture.specs.Svg.Whom.{whom, whom_words}
+use Rattle.hub_picture.specs.Svg.Whom.{whom_words}
 
 -- where a case sends, and all who received there have left
 abbrev pub gone_words : Case → Bool → List ℕ
@@ -28,7 +28,7 @@ waiter_words w =
 
 -- with for whom it waits, where everyone waits
 abbrev pub waiter_told : Drawing → Waiter → List ℕ
-waiter_told d w = waiter_words w ++ whom_words (whom d w)
+waiter_told d w = waiter_words w ++ whom_words w.whom
 
 abbrev pub waiter_text : Drawing → Waiter → List ℕ
 waiter_text d w = codes "<tspan class=\"waits\" x=\"12\" dy=\"18\">" ++ waiter_told d w ++ codes "</tspan>\n"

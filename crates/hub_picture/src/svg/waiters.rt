@@ -4,7 +4,7 @@ ghost use Rattle.std.specs.Prelude.{◌≡◌};
 ghost use Rattle.hub_picture.specs.Pieces.{Appends};
 ghost use Rattle.hub_picture.specs.Svg.Waiters.{deadlock_text, gone_words, last_words, outsider_text, waiter_text, waiter_told, waiter_words};
 
-use super::whom::{put_whom_words, whom};
+use super::whom::put_whom_words;
 use crate::frame::number_of;
 use crate::pen::Pen;
 use crate::piece::{Piece, put, put_filled, put_pieces};
@@ -50,7 +50,7 @@ fn put_told(out: &mut Vec<u8>, drawing: &Drawing, waiter: &Waiter) -> Result<(),
     ensures { Appends out.old out.new (waiter_told drawing.now waiter.now) result }
 {
     put_words(out, waiter)?;
-    put_whom_words(out, whom(drawing, waiter))
+    put_whom_words(out, waiter.whom)
 }
 
 /// Appends, where anyone was stalled, what that is.

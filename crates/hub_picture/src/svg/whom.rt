@@ -1,132 +1,17 @@
 //! Who may wait for whom where everyone waits.
 
 ghost use Rattle.std.specs.Prelude.{◌≡◌, ◌≤◌};
-ghost use Rattle.std.specs.List.{list_any};
 ghost use Rattle.hub_picture.specs.Pieces.{Appends};
-ghost use Rattle.hub_picture.specs.Svg.Whom.{field_end, if_other, is_beside, last_across, last_beside, pulled, stalls_it, tip_of};
-ghost use Rattle.hub_picture.specs.Svg.Whom.{unless_beside, waited_for, waits_beside, whom, whom_arc, whom_in, whom_text, whom_words};
+ghost use Rattle.hub_picture.specs.Svg.Whom.{field_end, pulled, tip_of, whom_arc, whom_in, whom_text, whom_words};
 
 use crate::frame::Frame;
 use crate::pen::Pen;
 use crate::piece::put_filled;
 use crate::{Drawing, Waiter};
-use hub_base::Case;
 use hub_story::Told;
 use std::alloc::AllocError;
 
-/// Whether it tells that this step stalled this process.
-fn stalls_it(step: u32, pid: u8, told: &Told) -> bool
-    ensures { result ≡ stalls_it step pid told.now }
-{
-    told.event.pid.0 == pid && told.by == step
-}
-
-/// Whether one of these does.
-fn is_stalled(stalls: &[Told], step: u32, pid: u8) -> bool
-    ensures { result ≡ list_any (stalls_it step pid) stalls.now }
-{
-    for told in stalls {
-        if stalls_it(step, pid, told) {
-            return true;
-        }
-    }
-    false
-}
-
-/// The process that moved a value, where the same step stalled it, and it is not the one that waits.
-fn if_other(stalls: &[Told], own: &Told, mover: Option<Told>) -> Option<u8>
-    ensures { result ≡ if_other stalls.now own.now mover }
-{
-    match mover {
-        Some(told) => {
-            let pid = told.event.pid.0;
-            if pid != own.event.pid.0 && is_stalled(stalls, own.by, pid) {
-                Some(pid)
-            } else {
-                None
-            }
-        }
-        None => None,
-    }
-}
-
-/// Whether both send on one port, or both receive from it.
-fn is_beside(case: Case, other: Case) -> bool
-    ensures { result ≡ is_beside case other }
-{
-    match case {
-        Case::Recv(port) => matches!(other, Case::Recv(same) if same.0 == port.0),
-        Case::Send(port, _) => matches!(other, Case::Send(same, _) if same.0 == port.0),
-    }
-}
-
-/// Whether this process waits beside it, and the same step stalled both.
-fn waits_beside(own: &Waiter, pid: u8, waiter: &Waiter) -> bool
-    ensures { result ≡ waits_beside own.now pid waiter.now }
-{
-    stalls_it(own.told.by, pid, &waiter.told) && is_beside(own.case, waiter.case)
-}
-
-/// Whether one of these waits does.
-fn any_beside(waiters: &[Waiter], own: &Waiter, pid: u8) -> bool
-    ensures { result ≡ list_any (waits_beside own.now pid) waiters.now }
-{
-    for waiter in waiters {
-        if waits_beside(own, pid, waiter) {
-            return true;
-        }
-    }
-    false
-}
-
-/// That process, unless it waits beside.
-fn unless_beside(waiters: &[Waiter], own: &Waiter, pid: Option<u8>) -> Option<u8>
-    ensures { result ≡ unless_beside waiters.now own.now pid }
-{
-    match pid {
-        Some(pid) if any_beside(waiters, own, pid) => None,
-        _ => pid,
-    }
-}
-
-/// The last on the other side of the port.
-fn last_across(waiter: &Waiter) -> Option<Told>
-    ensures { result ≡ last_across waiter.now.case waiter.now.sender waiter.now.receiver }
-{
-    match waiter.case {
-        Case::Recv(_port) => waiter.sender,
-        Case::Send(_port, _value) => waiter.receiver,
-    }
-}
-
-/// The last on its own side.
-fn last_beside(waiter: &Waiter) -> Option<Told>
-    ensures { result ≡ last_beside waiter.now.case waiter.now.sender waiter.now.receiver }
-{
-    match waiter.case {
-        Case::Recv(_port) => waiter.receiver,
-        Case::Send(_port, _value) => waiter.sender,
-    }
-}
-
-/// The process that moved a value, where it can be waited for.
-fn waited_for(drawing: &Drawing, waiter: &Waiter, mover: Option<Told>) -> Option<u8>
-    ensures { result ≡ waited_for drawing.now waiter.now mover }
-{
-    let other = if_other(&drawing.stalls, &waiter.told, mover);
-    unless_beside(&drawing.waiters, waiter, other)
-}
-
-/// For whom it may wait, where that one waits too.
-pub(crate) fn whom(drawing: &Drawing, waiter: &Waiter) -> Option<u8>
-    ensures { result ≡ whom drawing.now waiter.now }
-{
-    let across = waited_for(drawing, waiter, last_across(waiter));
-    let beside = waited_for(drawing, waiter, last_beside(waiter));
-    across.or(beside)
-}
-
-/// Appends it in words.
+/// Appends in words for whom a call perhaps waits.
 pub(crate) fn put_whom_words(out: &mut Vec<u8>, whom: Option<u8>) -> Result<(), AllocError>
     ensures { Appends out.old out.new (whom_words whom) result }
 {
@@ -221,7 +106,7 @@ impl Pen<Waiter> for Arcs<'_> {
 
     fn put(&self, out: &mut Vec<u8>, waiter: &Waiter) -> Result<(), AllocError> {
         if self.0.steps.has(waiter.told.by) {
-            put_whom(out, self.0, &waiter.told, whom(self.1, waiter))
+            put_whom(out, self.0, &waiter.told, waiter.whom)
         } else {
             Ok(())
         }

@@ -1,4 +1,4 @@
-use Rattle.hub_page.specs.Levels.{count_at, level_of}
+use Rattle.hub_story.specs.Levels.{count_at, level_of}
 use Rattle.hub_page.specs.Ports.{moves_on}
 use Rattle.hub_page.proofs.Sums.{held-next}
 use Rattle.hub_page.proofs.ports.note_held.Goals as goal

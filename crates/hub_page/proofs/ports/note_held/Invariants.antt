@@ -2,7 +2,7 @@ use Rattle.std.proofs.Common.{◌≡◌, ◌≤◌, ◌+◌, cond, length, max, 
 use Rattle.std.specs.List.{list_any}
 use Rattle.hub_base.specs.declared.limits.TheConstants.{MOST_PORTS}
 use Rattle.hub_base.specs.declared.value.Port.{Port}
-use Rattle.hub_page.specs.Levels.{count_at, level_of}
+use Rattle.hub_story.specs.Levels.{count_at, level_of}
 use Rattle.hub_page.specs.Ports.{moves_on}
 use Rattle.hub_page.proofs.ports.note_held.Given as goal
 

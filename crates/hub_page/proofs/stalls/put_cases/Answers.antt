@@ -1,6 +1,6 @@
 use Rattle.std.proofs.Common.{◌∙◌, ◌++◌, ap}
 use Rattle.hub_base.specs.declared.case.Case.{Case}
-use Rattle.hub_story_text.proofs.Chains.{flat-next}
+use Rattle.hub_page.proofs.Lines.{flat-next}
 use Rattle.hub_page.specs.Known.{entries_of}
 use Rattle.hub_page.specs.Stalls.{until, waiting_words}
 use Rattle.hub_page.proofs.stalls.put_cases.Goals as goal

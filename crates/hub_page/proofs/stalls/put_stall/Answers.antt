@@ -1,6 +1,6 @@
 use Rattle.std.proofs.Common.{◌∙◌, ◌++◌, ap}
 use Rattle.hub_story.specs.declared.told.Told.{Told}
-use Rattle.hub_story_text.proofs.Chains.{flat-next}
+use Rattle.hub_page.proofs.Lines.{flat-next}
 use Rattle.hub_page.specs.Known.{entries_of}
 use Rattle.hub_page.specs.Stalls.{call_words, until}
 use Rattle.hub_page.proofs.stalls.put_stall.Goals as goal

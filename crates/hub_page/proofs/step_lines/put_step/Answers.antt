@@ -1,7 +1,7 @@
 use Rattle.std.proofs.Common.{subst}
-use Rattle.hub_story_text.specs.LastMoves.{AreLast}
+use Rattle.hub_story.specs.LastMoves.{AreLast}
 use Rattle.hub_page.specs.Known.{entries_of, procs_of, told_of}
-use Rattle.hub_page.specs.Levels.{AreLevels}
+use Rattle.hub_story.specs.Levels.{AreLevels}
 use Rattle.hub_page.specs.ParkedCalls.{AreParked}
 use Rattle.hub_page.proofs.Blocks.{block-next}
 use Rattle.hub_page.proofs.Lines.{line-put}

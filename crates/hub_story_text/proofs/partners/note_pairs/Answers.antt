@@ -1,7 +1,6 @@
 use Rattle.std.proofs.Common.{◌≤◌, ◌<◌, ◌+◌, ◌∙◌, ap, sym, arith, length, drop, get_or, min}
 use Rattle.std.specs.List.{fold}
-use Rattle.hub_story_text.specs.Partners.{with_way}
-use Rattle.hub_story_text.specs.PortMoves.{paired}
+use Rattle.hub_story_text.specs.Partners.{paired, with_way}
 use Rattle.hub_story_text.proofs.Places.{pairs-next, pairs-end}
 use Rattle.hub_story_text.proofs.partners.note_pairs.Goals as goal
 

@@ -1,7 +1,6 @@
 use Rattle.std.proofs.Common.{◌≡◌, drop}
 use Rattle.std.specs.List.{fold}
-use Rattle.hub_story_text.specs.Partners.{with_way}
-use Rattle.hub_story_text.specs.PortMoves.{paired}
+use Rattle.hub_story_text.specs.Partners.{paired, with_way}
 use Rattle.hub_story_text.proofs.partners.note_pairs.Given as goal
 
 abbrev pub invariant-loop-place : goal.invariant-loop-place

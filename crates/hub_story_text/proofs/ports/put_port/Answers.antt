@@ -6,24 +6,23 @@ use Rattle.hub_story.specs.OfPorts.{things_on}
 use Rattle.hub_story.specs.Passing.{receives, sends}
 use Rattle.hub_story_text.specs.Closers.{turns_on}
 use Rattle.hub_story_text.specs.declared.closers.Turns.{Turns}
-use Rattle.hub_story_text.specs.Fullest.{IsUp, fullest, fullest_of}
-use Rattle.hub_story_text.specs.PortMoves.{steps_on}
+use Rattle.hub_story_text.specs.Fullest.{IsUp, fullest, fullest_of, steps_of}
 use Rattle.hub_story_text.specs.PortText.{by_words, cap_words, counts_words, most_words, opened_at, turn_words}
 use Rattle.hub_base.specs.Values.{got_on, sent_on}
 use Rattle.hub_story_text.proofs.Chains.{one-more, two}
 use Rattle.hub_story_text.proofs.Closings.{among-turns}
-use Rattle.hub_story_text.proofs.Levels.{fullest-is, steps_of, steps-up}
+use Rattle.hub_story_text.proofs.Levels.{fullest-is, moved_by_steps, steps-up}
 use Rattle.hub_story_text.proofs.Places.{received-steps, sent-steps}
 use Rattle.hub_story_text.proofs.ports.put_port.Goals as goal
 
-pub fullest-requires-clause-sent : goal.fullest-requires-clause-sent
-fullest-requires-clause-sent c =
+pub fullest_on-requires-clause-sent : goal.fullest_on-requires-clause-sent
+fullest_on-requires-clause-sent c =
     let es = c.args.journal.now.entries in
     let told = c.args.story.now.told.items in
     subst (IsUp 0) (sym (sent-steps es told c.args.moves.now c.requires.moves c.args.port)) (steps-up (sent_on c.args.port) es 0 told c.requires.order)
 
-pub fullest-requires-clause-received : goal.fullest-requires-clause-received
-fullest-requires-clause-received c =
+pub fullest_on-requires-clause-received : goal.fullest_on-requires-clause-received
+fullest_on-requires-clause-received c =
     let es = c.args.journal.now.entries in
     let told = c.args.story.now.told.items in
     subst (IsUp 0) (sym (received-steps es told c.args.moves.now c.requires.moves c.args.port)) (steps-up (got_on c.args.port) es 0 told c.requires.order)
@@ -46,10 +45,10 @@ returns c =
     c.level.ensures.received es told c.requires.moves ∙ ap (λ l. length (receives es l p)) (sym c.requires.whole) in
     let counts = counts_words (sent_by es told p (length es)) (received_by es told p (length es)) in
     let full = fullest es told p (length es) in
-    let is-full : c.in_ok-fullest.field-0 ≡ full =
-    c.in_ok-fullest.ensures
-    ∙ ap (λ l. fullest_of l (steps_on p (things_on c.args.moves.now.received p))) (sent-steps es told c.args.moves.now c.requires.moves p)
-    ∙ ap (fullest_of (steps_of (sends es told p))) (received-steps es told c.args.moves.now c.requires.moves p)
+    let is-full : c.in_ok-fullest_on.field-0 ≡ full =
+    c.in_ok-fullest_on.ensures
+    ∙ ap (λ l. fullest_of l (steps_of (things_on c.args.moves.now.received p))) (sent-steps es told c.args.moves.now c.requires.moves p)
+    ∙ ap (fullest_of (moved_by_steps (sends es told p))) (received-steps es told c.args.moves.now c.requires.moves p)
     ∙ fullest-is es told p (length es) c.requires.order c.requires.whole in
     let made = by_words (codes " made by P") c.args.told.now in
     let before = codes "port " ++ decimal p.0 in

@@ -3,7 +3,7 @@ use Rattle.std.proofs.lemmas.List.{drop_all}
 use Rattle.std.proofs.lemmas.Option.{get_or_from_slice_get}
 use Rattle.hub_story.specs.Levels.{told_by}
 use Rattle.hub_story_text.specs.Explained.{entries_of, told_of}
-use Rattle.hub_story_text.specs.LastMoves.{AreLast}
+use Rattle.hub_story.specs.LastMoves.{AreLast}
 use Rattle.hub_story_text.specs.StoryText.{step_text, steps_text}
 use Rattle.hub_story_text.proofs.Chains.{line-more}
 use Rattle.hub_story_text.proofs.Groups.{first-cut, next-cut, none-before}

@@ -1,7 +1,7 @@
 use Rattle.std.proofs.Common.{◌≡◌, ◌++◌, drop}
 use Rattle.hub_story.specs.Levels.{told_by}
 use Rattle.hub_story_text.specs.Explained.{entries_of, told_of}
-use Rattle.hub_story_text.specs.LastMoves.{AreLast, IsWhole}
+use Rattle.hub_story.specs.LastMoves.{AreLast, IsWhole}
 use Rattle.hub_story_text.specs.StoryText.{steps_text}
 use Rattle.hub_story_text.proofs.Groups.{IsCut}
 use Rattle.hub_story_text.proofs.steps.put_steps.Given as goal

@@ -1,6 +1,6 @@
 use Rattle.std.proofs.Common.{◌++◌, ◌∙◌, ap}
 use Rattle.hub_story.specs.declared.told.Told.{Told}
-use Rattle.hub_story_text.specs.LastMoves.{known_at}
+use Rattle.hub_story.specs.LastMoves.{known_at}
 use Rattle.hub_story_text.specs.WaiterText.{waiter_words}
 use Rattle.hub_story_text.proofs.Chains.{flat-next}
 use Rattle.hub_story_text.proofs.waiters.put_calls.Goals as goal

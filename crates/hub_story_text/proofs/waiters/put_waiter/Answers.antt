@@ -1,6 +1,6 @@
 use Rattle.std.proofs.Common.{codes}
 use Rattle.std.specs.List.{flat_map}
-use Rattle.hub_story_text.specs.LastMoves.{known_at}
+use Rattle.hub_story.specs.LastMoves.{known_at}
 use Rattle.hub_story_text.specs.WaiterText.{case_words, who_words}
 use Rattle.hub_base.specs.Values.{cases_at}
 use Rattle.hub_story_text.proofs.Chains.{on-ok, one-more}

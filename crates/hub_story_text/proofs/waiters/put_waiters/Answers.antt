@@ -1,6 +1,6 @@
 use Rattle.std.proofs.Common.{rules, ◌∙◌, ◌++◌, ap, sym}
 use Rattle.std.specs.List.{flat_map}
-use Rattle.hub_story_text.specs.LastMoves.{known_at}
+use Rattle.hub_story.specs.LastMoves.{known_at}
 use Rattle.hub_story_text.specs.WaiterText.{left_words, waiter_words}
 use Rattle.hub_story_text.proofs.Chains.{on-ok, one-more}
 use Rattle.hub_story_text.proofs.StepLines.{not-empty}

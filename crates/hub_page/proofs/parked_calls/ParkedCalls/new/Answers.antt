@@ -1,6 +1,6 @@
 use Rattle.std.proofs.Common.{◌≡◌, ◌∙◌, ap, refl, List, None, Option, Some, ℕ}
 use Rattle.std.specs.Prelude.{slice_index_or}
-use Rattle.hub_page.proofs.Counted.{all-same}
+use Rattle.hub_page.proofs.Sums.{all-same}
 use Rattle.hub_page.proofs.parked_calls.ParkedCalls.new.Goals as goal
 
 -- what is no call's clone is no call

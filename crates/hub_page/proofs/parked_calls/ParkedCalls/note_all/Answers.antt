@@ -1,6 +1,6 @@
 use Rattle.std.proofs.Common.{[], ◌∷◌, ◌∙◌, ◌++◌, ap, sym, subst, take, append_assoc}
 use Rattle.hub_story.specs.declared.told.Told.{Told}
-use Rattle.hub_story_text.proofs.StepLines.{taken-next}
+use Rattle.hub_page.proofs.Lines.{taken-next}
 use Rattle.hub_page.specs.ParkedCalls.{AreParked}
 use Rattle.hub_page.proofs.Waiting.{calls-more}
 use Rattle.hub_page.proofs.parked_calls.ParkedCalls.note_all.Goals as goal

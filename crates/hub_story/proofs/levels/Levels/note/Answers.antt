@@ -20,8 +20,8 @@ returns-in-Send-clause-counted c =
     let few = subst (λ o. IfSome o (λ m. m.port.0 < PORT_NUMBERS)) c.move_of.ensures.value c.move_of.ensures.few in
     on-ok c.count_one.result
     (λ counted before was.
-        one-sent c.args.entries.now before c.args.told.now old _ m c.requires was few (sym c.move_of.ensures.value ∙ c.in-Some.is) on
-        (counted ∙ ap (one_more old.sent.items) c.into.ensures) refl)
+    one-sent c.args.entries.now before c.args.told.now old _ m c.requires was few (sym c.move_of.ensures.value ∙ c.in-Some.is) on
+    (counted ∙ ap (one_more old.sent.items) c.into.ensures) refl)
     c.count_one.ensures.ok
 
 pub returns-in-Recv-clause-counted : goal.returns-in-Recv-clause-counted
@@ -34,6 +34,6 @@ returns-in-Recv-clause-counted c =
     let few = subst (λ o. IfSome o (λ m. m.port.0 < PORT_NUMBERS)) c.move_of.ensures.value c.move_of.ensures.few in
     on-ok c.count_one-in-Recv.result
     (λ counted before was.
-        one-received c.args.entries.now before c.args.told.now old _ m c.requires was few (sym c.move_of.ensures.value ∙ c.in-Some.is) on refl
-        (counted ∙ ap (one_more old.received.items) c.into-in-Recv.ensures))
+    one-received c.args.entries.now before c.args.told.now old _ m c.requires was few (sym c.move_of.ensures.value ∙ c.in-Some.is) on refl
+    (counted ∙ ap (one_more old.received.items) c.into-in-Recv.ensures))
     c.count_one-in-Recv.ensures.ok

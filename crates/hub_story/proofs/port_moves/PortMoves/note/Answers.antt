@@ -15,8 +15,8 @@ returns-in-Send c =
     let on : c.in-Some.field-0.side ≡ side.Send = cc in
     on-ok c.push.result
     (λ pushed before was.
-        sent-pushed c.args.entries.now before c.args.told.now c.args.self.now _ c.in-Some.field-0 was (sym c.move_of.ensures.value ∙ c.in-Some.is) on
-        pushed refl)
+    sent-pushed c.args.entries.now before c.args.told.now c.args.self.now _ c.in-Some.field-0 was (sym c.move_of.ensures.value ∙ c.in-Some.is) on
+    pushed refl)
     c.push.ensures
 
 pub returns-in-Recv : goal.returns-in-Recv
@@ -26,6 +26,6 @@ returns-in-Recv c =
     let on : c.in-Some.field-0.side ≡ side.Recv = cc in
     on-ok c.push-in-Recv.result
     (λ pushed before was.
-        received-pushed c.args.entries.now before c.args.told.now c.args.self.now _ c.in-Some.field-0 was
-        (sym c.move_of.ensures.value ∙ c.in-Some.is) on refl pushed)
+    received-pushed c.args.entries.now before c.args.told.now c.args.self.now _ c.in-Some.field-0 was
+    (sym c.move_of.ensures.value ∙ c.in-Some.is) on refl pushed)
     c.push-in-Recv.ensures

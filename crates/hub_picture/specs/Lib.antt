@@ -11,3 +11,4 @@ pub mod Svg
 pub mod Plain
 pub mod PictureRows
 pub mod Ends
+pub mod Standing

@@ -11,10 +11,9 @@ use Rattle.hub_story.specs.declared.last_moves.AtPort.{AtPort}
 use Rattle.hub_story.specs.declared.told.Told.{Told}
 use Rattle.hub_base.specs.Values.{cases_at}
 use Rattle.hub_story.specs.declared.window.Window.{Window}
-use Rattle.hub_story.specs.LastMoves.{AreLast, known_of}
+use Rattle.hub_story.specs.LastMoves.{known_of}
 use Rattle.hub_story.specs.Levels.{told_by}
 use Rattle.hub_story.specs.Whom.{whom}
-use Rattle.hub_picture.specs.declared.waiters.Standing.{Standing}
 use Rattle.hub_picture.specs.declared.waiters.Waiter.{Waiter}
 use Rattle.hub_base.specs.Ready.{port_of}
 
@@ -56,7 +55,3 @@ abbrev pub all_waiters : Window → List Entry → List Told → List Told → L
 all_waiters w es all stalls waiting =
     stalled_by es all (last_step zero stalls) stalls
     ++ flat_map (waiters_of es all (length es) []) (open_in w (length es) waiting)
-
--- what is known of how things stand is so
-abbrev pub IsStanding : Standing → Type 0
-IsStanding s = AreLast s.moves.now.entries.now (told_by (s.step + 1) s.moves.now.told.now) s.last.now

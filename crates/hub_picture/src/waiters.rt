@@ -2,7 +2,8 @@
 
 ghost use Rattle.std.specs.Prelude.{◌≡◌, ◌<◌, ◌-◌, ◌^◌, ◌++◌, filter, length, map, IfOk, OnOk};
 ghost use Rattle.std.specs.List.{flat_map};
-ghost use Rattle.hub_picture.specs.Waiters.{IsStanding, all_waiters, is_by, last_step, open_in, waiters_of, waits_for};
+ghost use Rattle.hub_picture.specs.Standing.{IsStanding};
+ghost use Rattle.hub_picture.specs.Waiters.{all_waiters, is_by, last_step, open_in, waiters_of, waits_for};
 
 use crate::Window;
 use crate::moves::Moves;

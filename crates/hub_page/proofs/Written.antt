@@ -1,5 +1,6 @@
 -- Texts that are written one after the other.
-use Rattle.std.proofs.Common.{Err, List, Ok, OnErr, Option, Result, [], add-one, ap, append-nil, append_assoc, drop, get_or, length, refl, subst, sym, ℕ, ◌++◌, ◌+◌, ◌<◌, ◌∙◌, ◌≡◌, ◌≤◌}
+use Rattle.std.proofs.Common.{Err, List, Ok, OnErr, Option, Result, [], add-one, ap, append-nil, append_assoc, drop, get_or, length, refl}
+use Rattle.std.proofs.Common.{subst, sym, ℕ, ◌++◌, ◌+◌, ◌<◌, ◌∙◌, ◌≡◌, ◌≤◌}
 use Rattle.std.proofs.lemmas.List.{drop_all}
 use Rattle.std.proofs.Math.Seq.{drop-cons}
 use Rattle.std.specs.Io.KnownBytes.{Appends}

@@ -71,7 +71,8 @@ pub sent-pushed : (es : List Entry) (before : List Told) (t : Told) (old new : P
 sent-pushed es before t old new m was is on sent received = record {
   sent = λ p.
       side-more side.Send es before t p _ _ (was.sent p)
-      (sent p ∙ ap (λ l. things_on old.sent p ++ l) (sym (ap (pushed side.Send p t) is ∙ ap (λ s. cond (is_same side.Send s) (one_of m.port p (call_of t)) []) on)));
+      (sent p ∙ ap (λ l. things_on old.sent p ++ l)
+      (sym (ap (pushed side.Send p t) is ∙ ap (λ s. cond (is_same side.Send s) (one_of m.port p (call_of t)) []) on)));
   received = λ p.
       side-more side.Recv es before t p _ _ (was.received p)
       (ap (λ l. things_on l p) received ∙ sym (append-nil (things_on old.received p))

@@ -5,5 +5,7 @@ use Rattle.hub_picture.proofs.waiters.add_calls.Given as goal
 
 abbrev pub invariant-loop-call : goal.invariant-loop-call
 invariant-loop-call l =
-    l.all.items ++ flat_map (waiters_of l.standing.moves.now.entries.now l.standing.moves.now.told.now l.standing.step l.standing.stalled.now) (drop l.call-index l.calls)
-    ≡ l.fn.all.items ++ flat_map (waiters_of l.standing.moves.now.entries.now l.standing.moves.now.told.now l.standing.step l.standing.stalled.now) l.calls
+    l.all.items ++ flat_map (waiters_of l.standing.moves.now.entries.now l.standing.moves.now.told.now l.standing.step l.standing.stalled.now)
+    (drop l.call-index l.calls)
+    ≡ l.fn.all.items ++ flat_map (waiters_of l.standing.moves.now.entries.now l.standing.moves.now.told.now l.standing.step l.standing.stalled.now)
+    l.calls

@@ -9,6 +9,7 @@ loop-case-preserved c =
     let here = c.args.standing.now in
     let moves = here.moves.now in
     let all = c.loop-case.all.items in
-    mapped (waits_for moves.entries.now moves.told.now here.step here.stalled.now c.args.call.now) c.args.cases.now c.loop-case.case-index c.case-item.result all
+    mapped (waits_for moves.entries.now moves.told.now here.step here.stalled.now c.args.call.now) c.args.cases.now
+    c.loop-case.case-index c.case-item.result all
     c.push.new.self.items _ c.loop-case-test.true c.case-item.is c.loop-case.invariant
     (c.in_ok-push.ensures.items ∙ ap (λ (w : Waiter). all ++ w ∷ []) c.waits_for.ensures)

@@ -1,6 +1,7 @@
-use Rattle.std.proofs.Common.{◌≤◌, ◌∙◌, arith}
+use Rattle.std.proofs.Common.{◌≡◌, ◌≤◌, ◌∙◌, ℕ, arith, subst}
 use Rattle.hub_story_text.proofs.Groups.{next-cut}
 use Rattle.hub_page.specs.KnownPage.{line_of}
+use Rattle.hub_page.specs.Past.{IsPast}
 use Rattle.hub_page.proofs.Rests.{cut-rest, rest-cut}
 use Rattle.hub_page.proofs.Sums.{places-behind}
 use Rattle.hub_page.proofs.step_lines.put_lines.Goals as goal
@@ -32,3 +33,8 @@ loop-place-preserved c =
           places-behind (line_of k) c.args.block.now.first c.loop-place.place _ _ _ begun so.text
           c.in_ok-put_step.ensures.text;
     }
+
+pub returns-clause-past : goal.returns-clause-past
+returns-clause-past c =
+    let last : c.loop-place.place ≡ c.args.end = omega (arith, c.loop-place.auto.place-end, c.loop-place-test.false) in
+    subst (λ (place : ℕ). IsPast c.args.known.now place c.loop-place.past) last c.loop-place.invariant.past

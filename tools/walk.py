@@ -16,14 +16,15 @@ Wait = collections.namedtuple("Wait", "entry side port sender receiver is_left w
 class Entry:
     """A line of a journal, and what becomes of it."""
 
-    __slots__ = ("place", "line", "pid", "word", "asked", "cases", "end", "by", "move", "partner")
+    __slots__ = ("place", "line", "pid", "word", "asked", "cases", "end", "by", "move", "partner", "ender")
 
     def __init__(self, place, line):
         fields = line.split(" ")
         self.place, self.line, self.pid = place, line, int(fields[0])
         self.word, self.asked = model.step(fields[1:])
         self.cases = self.asked[0] if self.word == "call" else ()
-        self.end = self.by = None  # the words of the event that ended it, and the place of the entry by which it ended
+        # the words of the event that ended it, and the place of the entry by which it ended and that one's process
+        self.end = self.by = self.ender = None
         self.move = self.partner = None  # the value that it put into a port or took from one, and the entry at its other end
 
     @property
@@ -89,7 +90,7 @@ class Walk:
     """A journal, whose lines are gone through once: who waits, who has exited, and its ports, by the step that it has come to."""
 
     def __init__(self, lines):
-        self.lines = iter(lines)
+        self.clock, self.lines = clock_of(lines), iter(lines)
         head, procs = next(self.lines), next(self.lines)
         self.procs = int(procs.split()[1])
         self.hub = model.Hub(int(head.split()[2]), self.procs)
@@ -109,13 +110,23 @@ class Walk:
                 if words == "parked":
                     self.waiting[entry.pid] = entry
                 else:
-                    told.end, told.by = words, place
+                    told.end, told.by, told.ender = words, place, entry.pid
                     self.finish(told)
                     ended.append(told)
             for port in map(self.ports.__getitem__, ports_of(ended)):
                 if port.count > port.most:
                     port.most, port.fullest = port.count, place
             yield entry, ended
+
+    def words(self, entry):
+        """What an entry was told in the end. The clock is woken, and what it cancels has timed out."""
+        if entry.end in ("cancelled", "stalled") and entry.pid == self.clock:
+            return "woken"
+        return "timed out" if entry.end == "cancelled" and entry.ender == self.clock else entry.end
+
+    def name(self, pid):
+        """A process by its name."""
+        return f"P{pid}, the clock" if pid == self.clock else f"P{pid}"
 
     def finish(self, entry):
         words = entry.end.split(" ")

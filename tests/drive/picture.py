@@ -1,12 +1,13 @@
 #!/usr/bin/env python3
-"""picture.py TOOL: checks the pictures of the built chanhub_tool (TOOL), of the example journals, of 200 random ones and of
-windows of each. What a picture has to show is worked out here, from the journal and from the events that tools/model.py tells
-of it, and never from a picture. The pictures of docs/pictures are drawn again and compared; each of them is drawn with each
-allocation refused, which needs a C compiler; pictures of the longest journal, in which many wait, have to come soon, and a step
-costs as much however many wait, by valgrind where it is there, and the time of a whole picture grows with its steps and not with
-their square; and Chromium, where it is there, is asked on white and on dark paper whether all of a picture is in view, no text
-lies over another's box, over an arrow or beyond its own box, no tip of an arc that tells who waits for whom lies under a box or
-a bar, and all contrasts are at least 3. The last line counts: 'N passed, M failed', and 'K skipped' for what is not there."""
+"""picture.py TOOL: checks the pictures of the built chanhub_tool (TOOL), of the journals that story.py tells, and of windows
+of them. What a picture has to show is worked out here, from the journal and from the events that tools/model.py tells of it,
+and never from a picture. The pictures of docs/pictures are drawn again and compared; each of them is drawn with each
+allocation refused, which needs a C compiler; pictures of the longest journal, in which many wait, have to come soon, and a
+step costs as much however many wait, by valgrind where it is there, and the time of a whole picture grows with its steps and
+not with their square; and Chromium, where it is there, is asked on white and on dark paper whether all of a picture is in
+view, no text lies over another's box, over an arrow or beyond its own box, no tip of an arc that tells who waits for whom lies
+under a box or a bar, and all contrasts are at least 3. The last line counts: 'N passed, M failed', and 'K skipped' for what is
+not there."""
 import collections
 import itertools
 import pathlib
@@ -23,15 +24,12 @@ sys.dont_write_bytecode = True
 from programs import JOURNALS, MINUTE as WAIT, ROOT, Count, busy_time, examples, table
 from instructions import has_valgrind, instructions
 from refusals import Refuser
-import random_journal
+from story import Program, begins_under_refusals, journals
 import walk
 
 SVG = "{http://www.w3.org/2000/svg}"
 # after so many seconds a browser, or what is long, is taken to hang on a slow machine
 LONG = 600
-RANDOM = 200
-# of these by windows too
-WINDOWED = 50
 LAYERS = ["lane", "stall", "strip", "level", "whom", "arrow", "bar", "box"]
 FULL = 12
 # where lanes begin, and how much room a process has, how high its box is and how many steps a band has, by scale
@@ -56,7 +54,7 @@ class Journal(walk.Journal):
         self.stalled, self.vain = [], {}  # who waits in vain, by step
         self.moved = {"s": collections.defaultdict(list), "r": collections.defaultdict(list)}
         super().__init__(text)
-        self.left_waiting = [wait._replace(whom=None) for wait in self.waits(self.waiting.values())]
+        self.left_waiting = [wait._replace(whom=None) for wait in self.waits(self.others(self.waiting.values()))]
 
     def take(self, entry, ended):
         if (entry.word, entry.end) == ("exit", "done"):
@@ -65,10 +63,14 @@ class Journal(walk.Journal):
             self.lives[entry.asked].append([entry.place, None])
         for other in filter(lambda other: other.move, ended):
             self.moved[other.move.side][other.move.port].append(other)
-        stalled = [other for other in ended if other.end == "stalled"]
+        stalled = self.others(other for other in ended if other.end == "stalled")
         if stalled:
             self.stalled += stalled
             self.vain[entry.place] = list(self.waits(stalled))
+
+    def others(self, entries):
+        """Those that are not the clock's."""
+        return [entry for entry in entries if entry.pid != self.clock]
 
     def held(self):
         """For each port that has room, in order, its values from each step at which one moves until the next such step."""
@@ -115,8 +117,8 @@ class Bands:
         return range(self.band(max(since, self.first)), self.band(min(until, self.end - 1)) + 1)
 
 
-def title_of(entry):
-    end = "waits" if entry.end is None else f"{entry.pid} {entry.end}\nby step {entry.by + 1}"
+def title_of(journal, entry):
+    end = "waits" if entry.end is None else f"{entry.pid} {journal.words(entry)}\nby step {entry.by + 1}"
     return f"step {entry.place + 1}\n{entry.line}\n{end}\n"
 
 
@@ -125,13 +127,13 @@ def moved_title(entry):
 
 
 def boxes(journal, bands):
-    return [(bands.band(entry.place), title_of(entry)) for entry in journal.entries[bands.first : bands.end]]
+    return [(bands.band(entry.place), title_of(journal, entry)) for entry in journal.entries[bands.first : bands.end]]
 
 
 def bars(journal, bands):
     for entry in journal.entries:
         if entry.place < (bands.end if entry.end is None else entry.by):
-            yield from ((band, title_of(entry)) for band in bands.between(entry.place, entry.by))
+            yield from ((band, title_of(journal, entry)) for band in bands.between(entry.place, entry.by))
 
 
 def arrows(journal, bands):
@@ -173,7 +175,7 @@ def is_done(word):
     return lambda entry, end: (entry.word, end) == (word, "done")
 
 
-# what the legend tells, and of which entries, by them and by their ends
+# what the legend tells, and of which entries, by them and by what they were told
 MARKS = {
     "sends": is_side("s"),
     "receives": is_side("r"),
@@ -188,7 +190,7 @@ MARKS = {
     "refused: fault 3": lambda entry, end: end.startswith("fault"),
     "still waits": lambda entry, end: end == "",
     "closed and empty": lambda entry, end: end.endswith("drained"),
-    "was cancelled": lambda entry, end: end == "cancelled",
+    "was cancelled": lambda entry, end: end in ("cancelled", "timed out"),
     "stalls or fails": lambda entry, end: end == "stalled" or end.endswith("closed"),
 }
 
@@ -212,10 +214,11 @@ def waits(journal, bands):
 
 
 def outside(journal, bands):
-    """A row for each process that is there in the end and does not wait, where calls wait then, and that is shown."""
+    """A row for each process but the clock that is there in the end and does not wait, where calls of others wait then, and that
+    is shown."""
     last = {entry.pid: f"last at step {entry.place + 1}" for entry in journal.entries}
-    if journal.waiting and bands.end >= len(journal.entries):
-        for pid in sorted({*range(journal.procs)} - {*journal.waiting, *journal.exits}):
+    if journal.others(journal.waiting.values()) and bands.end >= len(journal.entries):
+        for pid in sorted({*range(journal.procs)} - {journal.clock, *journal.waiting, *journal.exits}):
             yield f"P{pid} is outside the hub, {last.get(pid, 'never called')}."
 
 
@@ -229,7 +232,7 @@ def whoms(journal, bands):
 def legend(journal, bands):
     """What the legend has to tell, in order."""
     shown = journal.entries[bands.first : bands.end]
-    yield from (words for words, holds in MARKS.items() if any(holds(entry, entry.end or "") for entry in shown))
+    yield from (words for words, holds in MARKS.items() if any(holds(entry, journal.words(entry) or "") for entry in shown))
     if any(bars(journal, bands)):
         yield "waits, then ends"
     if any(sent.by < bands.end and bands.first <= sent.partner.by for sent in journal.passages()):
@@ -303,7 +306,8 @@ def column(place, band, bands, columns, edges):
 
 def lanes_agree(root, journal, bands):
     """Each lane goes from the left edge of its band, or from the column of the step that started its process again, to the column
-    of the exit of its process, or to the right edge; a process that is not there has none, and no name."""
+    of the exit of its process, or to the right edge; a process that is not there has none, and no name. That of the clock is
+    named so, and who points at it is told its number."""
     lanes = [numbers(path) for path in root.iter(SVG + "path") if path.get("class") == "lane"]
     columns, wanted, names = columns_of(root), [], []
     for band in range(bands.count):
@@ -315,9 +319,9 @@ def lanes_agree(root, journal, bands):
                 y = bands.y(band, pid, journal)
                 begin = edges[0] if begun is None else column(begun, band, bands, columns, edges)
                 wanted.append([begin, y, column(exited, band, bands, columns, edges), y])
-                names.append(f"P{pid}")
+                names.append(["clock", journal.name(pid)] if pid == journal.clock else [journal.name(pid)])
     assert lanes == wanted, f"lanes: {lanes} and not {wanted}"
-    told = [name.text for name in root.findall(SVG + "text") if name.get("class") == "name"]
+    told = [[*name.itertext()] for name in root.findall(SVG + "text") if name.get("class") == "name"]
     assert told == names, f"names: {told}"
 
 
@@ -404,6 +408,25 @@ def marks_agree(root, journal):
         assert fired == (["%s%d" % entry.fired[:2]] if entry.fired and len(cases) <= 4 else []), f"{title}: {fired}"
 
 
+# what the class of a shape says of the end of its entry, by the last word of that
+ENDINGS = {
+    "waits": "open",
+    "drained": "drained",
+    "closed": "trouble",
+    "stalled": "trouble",
+    "cancelled": "cancelled",
+    "out": "cancelled",  # as timed out
+}
+
+
+def classes_agree(root, journal):
+    """The class of a box or a bar says how its entry ended, if that is no matter of course."""
+    for group, title in shapes(root, "box") + shapes(root, "bar"):
+        last = (journal.words(journal.entries[int(title.split()[1]) - 1]) or "waits").split()[-1]
+        told = [word for word in group.get("class").split() if word in ENDINGS.values()]
+        assert told == [*filter(None, [ENDINGS.get(last)])], f"{title}: {told}"
+
+
 def places_agree(root):
     """Boxes of one step have one column, of one process one height in a band, and a value handed over goes straight down."""
     columns, heights = {}, collections.defaultdict(set)
@@ -447,6 +470,7 @@ def check_picture(picture, journal, first, end):
     arrows_agree(root, arrows(journal, bands), journal, bands)
     whoms_agree(root, whoms(journal, bands), journal, bands)
     marks_agree(root, journal)
+    classes_agree(root, journal)
     legend_agrees(root, legend(journal, bands))
     is_dead = any(stalls(journal, bands))
     for kind, wanted in (("waits", [row for row, *_ in waits(journal, bands)]), ("outside", [*outside(journal, bands)]),
@@ -489,7 +513,8 @@ def check_refusals(count, program, journals):
     with tempfile.TemporaryDirectory() as work:
         refuser = Refuser(work)
         for path in journals:
-            count.test(f"{path.name} with refused allocations", refuser.survives([program, "picture"], path.read_bytes()))
+            survives = begins_under_refusals(Program(program), ["picture"], path.read_bytes(), refuser)
+            count.test(f"{path.name} with refused allocations", survives)
 
 
 # ---- what it costs
@@ -618,22 +643,22 @@ def main():
     program = str(pathlib.Path(sys.argv[1]).resolve())
     count = Count()
     documents = sorted((ROOT / "docs" / "pictures").glob("*.journal"))
-    for path in examples(JOURNALS):
-        check_journal(count, program, path.name, path.read_bytes())
-    for seed, third in ((seed, third) for third in (False, True) for seed in range(1, RANDOM + 1)):
-        text = random_journal.Journal(seed, 0, third).text().encode()
-        check_journal(count, program, f"random journal {seed}{' of the third edition' * third}", text, seed <= WINDOWED)
+    rows = {row["name"]: row["journal"].encode() for row in table("stories")["story"]}
+    rows |= {path.name: path.read_bytes() for path in documents}
+    for name, text, by_windows in journals():
+        check_journal(count, program, name, text.encode(), by_windows)
+    for name, text in rows.items():
+        check_journal(count, program, name, text)
     for path in documents:
         check_document(count, program, path)
-        check_journal(count, program, path.name, path.read_bytes())
     check_left(count, program)
     check_refusals(count, program, documents)
     check_times(count, program)
     check_growth(count, program)
     check_costs(count, program)
     if browser():
-        paths = examples(JOURNALS) + documents
-        check_views(count, {path.name: output_of([program, "picture"], path.read_bytes()) for path in paths})
+        rows |= {path.name: path.read_bytes() for path in examples(JOURNALS)}
+        check_views(count, {name: output_of([program, "picture"], text) for name, text in rows.items()})
     else:
         count.skip("pictures in a browser, since there is no Chromium")
     return count.end()

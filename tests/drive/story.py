@@ -94,11 +94,21 @@ class Program:
 
 
 def journals():
-    """Each example, and random journals of each edition; and whether they are told by windows too."""
+    """Each example, and random journals of each edition, and with a clock; and whether they are told by windows too."""
     yield from ((path.name, path.read_text(), True) for path in examples(JOURNALS))
     for third, name in (False, "random journal"), (True, "random journal of the third edition"):
         for seed in range(1, RANDOM_JOURNALS + 1):
             yield f"{name} {seed}", Journal(seed, 0, third).text(), seed <= WINDOWED
+    yield from ((name, journal, False) for name, journal in clocked())
+
+
+def clocked():
+    """Journals of hubs with a clock, and some that nearly have one."""
+    draw = random.Random(2)
+    for seed in range(2, RANDOM_JOURNALS + 1, 2):
+        journal = Journal(seed, 0).text()
+        if "procs 64\n" not in journal:
+            yield f"random journal {seed} with a clock", with_clock(journal, draw)
 
 
 def with_clock(journal, draw):
@@ -117,17 +127,13 @@ def with_clock(journal, draw):
 
 
 def clocks(program, work):
-    """Journals of hubs with a clock, and some that nearly have one."""
-    draw = random.Random(2)
+    """Journals of hubs with a clock in colours."""
     have = 0
-    for name, journal, _ in journals():
-        if journal.startswith("chanhub journal 2") and "procs 64\n" not in journal:
-            journal = with_clock(journal, draw)
-            story = Story(journal)
-            have += story.clock >= 0
-            yield f"{name} with a clock", program.tells(journal, story, None)
-            coloured = 0, story.text(1, len(story.entries), True), b""
-            yield f"{name} with a clock, coloured", program.run(["story", "--color", "always"], journal.encode()) == coloured
+    for name, journal in clocked():
+        story = Story(journal)
+        have += story.clock >= 0
+        coloured = 0, story.text(1, len(story.entries), True), b""
+        yield f"{name}, coloured", program.run(["story", "--color", "always"], journal.encode()) == coloured
     yield f"some have a clock, not {have}", have > 20
 
 
@@ -210,6 +216,8 @@ def refused_allocations(program, work):
     refuser = Refuser(work)
     for row in table("stories")["story"]:
         yield row["name"], survives_refusals(program, ["story"], row["journal"].encode(), refuser)
+    longer = "chanhub journal 1\nprocs 2\n0 make 1\n" + "0 send 1 7\n1 recv 1\n" * 800 + "1 recv 1\n"
+    yield "a story of two pieces", begins_under_refusals(program, ["story"], longer.encode(), refuser)
 
 
 def longest_journals(program, _):

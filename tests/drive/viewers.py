@@ -19,9 +19,8 @@ import story_model
 import walk
 
 MOST_STEPS = 200
-# a page of a million steps takes so many bytes of memory more than the story of one of them at most; its text has thirty times as
-# many
-MOST_OF_PAGE = 1_000_000
+# a page of a million steps takes so many bytes of memory more than a picture of one of them at most, for the end of its story
+MOST_OF_PAGE = 17_000_000
 TOO_LONG = refused("too long for a diagram, which shows 200 steps at most")
 
 # What a process was told, of which entry, by the entry at which place.
@@ -37,7 +36,7 @@ class Journal(walk.Journal):
 
     def take(self, entry, ended):
         self.told += [Told(entry, entry.place, "parked")] * entry.is_parked
-        self.told += [Told(other, entry.place, other.end) for other in ended]
+        self.told += [Told(other, entry.place, self.words(other)) for other in ended]
 
 
 def asked_by(entry):
@@ -46,7 +45,7 @@ def asked_by(entry):
 
 def diagram(journal, first, last):
     """The sequence diagram of the steps from one to another, counted from 1."""
-    lines = [f"participant P{pid}" for pid in range(journal.procs)]
+    lines = [f"participant P{pid}" + f" as {journal.name(pid)}" * (pid == journal.clock) for pid in range(journal.procs)]
     lines += [f"participant port{number} as port {number}" for number, port in enumerate(journal.ports) if port.room]
     for told in journal.told:
         if first - 1 <= told.by < last and told.entry.pid < journal.procs:
@@ -71,14 +70,14 @@ def events_of(journal):
     yield {"ph": "M", "pid": 1, "name": "process_name", "args": {"name": "processes"}}
     yield {"ph": "M", "pid": 2, "name": "process_name", "args": {"name": "ports"}}
     for pid in range(journal.procs):
-        yield {"ph": "M", "pid": 1, "tid": pid, "name": "thread_name", "args": {"name": f"P{pid}"}}
+        yield {"ph": "M", "pid": 1, "tid": pid, "name": "thread_name", "args": {"name": journal.name(pid)}}
     for entry in journal.entries:
         kind = "wait" if entry.end is None or entry.by > entry.place else "step"
         yield {"ph": "X", "pid": 1, "tid": entry.pid, "ts": entry.place + 1, "dur": entry.waited(len(journal.entries)) + 1, "cat": kind,
-               "name": asked_by(entry), "args": {"told": entry.end or "parked"}}
+               "name": asked_by(entry), "args": {"told": journal.words(entry) or "parked"}}
         if entry.end in ("stalled", "cancelled") or entry.end == "done" and entry.word in ("close", "reopen", "start"):
             process = entry.asked if entry.word == "start" else entry.pid
-            yield {"ph": "i", "s": "t", "pid": 1, "tid": process, "ts": entry.by + 1, "name": f"{asked_by(entry)}, {entry.end}"}
+            yield {"ph": "i", "s": "t", "pid": 1, "tid": process, "ts": entry.by + 1, "name": f"{asked_by(entry)}, {journal.words(entry)}"}
     numbers = collections.Counter()
     for entry in (told.entry for told in journal.told if told.words.endswith(" sent")):
         if entry.partner:
@@ -271,8 +270,8 @@ def pages_as_they_go(program, _):
         yield f"room for {most} of {len(whole)} bytes", program.run_to_short(["page"], journal, most) == wanted
     yield "room for all", program.run_to_short(["page"], journal, len(whole)) == (0, b"", whole)
     longest = passing((1000000 - 64) // 2)
-    (status, written, memory), (_, _, least) = program.memory(["page"], longest), program.memory(["story", "1"], longest)
-    yield f"a page of {written} bytes within {memory} bytes of memory, and a line within {least}", status == 0 and memory <= least + MOST_OF_PAGE
+    (status, written, memory), (_, _, least) = program.memory(["page"], longest), program.memory(["picture", "1"], longest)
+    yield f"a page of {written} bytes within {memory} bytes of memory, and a picture within {least}", status == 0 and memory <= least + MOST_OF_PAGE
 
 
 def faults(program, _):

@@ -62,7 +62,6 @@ class Data:
     def __init__(self, lines, write, asked=None):
         count = len(lines) - 2
         first, last = asked or (1, count)
-        clock = walk.clock_of(lines)
         self.walk = walk.Walk(lines)
         self.window = range((first - 1) // BLOCK * BLOCK, min(count, -(-last // BLOCK) * BLOCK))
         self.sketch, self.told = Sketch(0), set(self.window)
@@ -73,7 +72,7 @@ class Data:
                 self.told |= {other.place for other in self.walk.waiting.values()}
             if len(texts) % BLOCK == 0 or len(texts) == count:
                 sketches.append(self.end_block(len(texts)))
-        write("\n".join([*lines[:2], f"steps {first} {last}"]) + ("\n" if clock == walk.NOBODY else f" clock {clock}\n"))
+        write("\n".join([*lines[:2], f"steps {first} {last}"]) + ("\n" if self.walk.clock == walk.NOBODY else f" clock {self.walk.clock}\n"))
         for place, text in enumerate(texts):
             write(text if place in self.told else "\n")
             if (place + 1) % BLOCK == 0 or place + 1 == count:

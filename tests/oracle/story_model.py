@@ -33,8 +33,8 @@ class Story:
 
     def __init__(self, journal):
         lines = journal.splitlines()
-        self.clock = walk.clock_of(lines)
         self.walk = walk.Walk(lines)
+        self.clock = self.walk.clock
         self.entries = []
         self.ended = {}  # by place, the entries that ended by the one there, but for itself
         self.below = {}  # by place, lines on those whom it stalled
@@ -71,10 +71,8 @@ class Story:
         return ["outside the hub: " + "; ".join(told)] if told else []
 
     def answer(self, entry):
-        """What an entry was told in the end. The clock is woken, and what it cancels has timed out."""
-        if entry.end in ("cancelled", "stalled") and entry.pid == self.clock:
-            return "woken"
-        return "timed out" if entry.end == "cancelled" and self.entries[entry.by].pid == self.clock else answer(entry)
+        words = self.walk.words(entry)
+        return words if words in ("woken", "timed out") else answer(entry)
 
     def does(self, entry, ended):
         """What an entry did to another one that ended by it."""

@@ -102,7 +102,7 @@ def value(text, words):
 
 
 def faults():
-    return {name: int(number) for name, number in re.findall(r'^fault_number (\w+) = (\d+)$', read('Faults.antt'), re.M)}
+    return {name: int(number) for name, number in re.findall(r'^fault_row (\w+) = \((\d+), ', read('Faults.antt'), re.M)}
 
 
 def theorems():

@@ -57,7 +57,7 @@ ROW_OF_CHANGING = re.compile(r'^(?:\| )?`(\w+)`(?: \*)? \| (.*?) \|', re.M)
 STEP = re.compile(r'\bReopen\b')
 CITED = re.compile(r'\bRattle\.((\w+)\.proofs\.\w+)')
 LAWS = {'hub_base', 'hub_laws', 'hub_chapters'}
-STILL_CITED = {f'hub_story.proofs.{it}' for it in ('Editions', 'Filling', 'Filters', 'Gone')} | {
+STILL_CITED = {f'hub_story.proofs.{it}' for it in ('Editions', 'Ending', 'Filling', 'Filters', 'Gone', 'InTime', 'Late', 'Ordered', 'Walks')} | {
     f'hub_story_text.proofs.{it}' for it in ('Chains', 'Groups', 'StepLines', 'StepTexts')}
 EDITS_OF_GATE = re.compile(r'^gate: yes$', re.M)
 COUNTED_EDITS = re.compile(r'rejects (\w+)\s+deliberately wrong')

@@ -16,14 +16,10 @@ use chain::{check_files, read_files};
 use clap::ArgMatches;
 use explore::{Exploring, explore_given, read_exploring};
 use hub_replay::Sink;
-pub(crate) use mermaid::diagram_of;
-pub(crate) use page::write_page_of;
-pub(crate) use picture::picture_of;
+pub(crate) use picture::write_picture;
 use serve::serve_streams;
 use std::alloc::{AllocError, Global};
-pub(crate) use story::story_of_steps;
 use story::{Telling, read_telling, tell_story};
-pub(crate) use trace::trace_of;
 
 /// What the program is asked to do.
 #[derive(Drop)]

@@ -1,11 +1,10 @@
 //! The explanation of a journal, and its status.
 
 ghost use Rattle.std.specs.Prelude.{◌≡◌, ◌≤◌};
-ghost use Rattle.std.specs.Io.KnownBytes.{Appends};
-ghost use Rattle.hub_replay.specs.Devices.{AppendsBeginning, Failed};
+ghost use Rattle.hub_replay.specs.Devices.{Failed};
 ghost use Rattle.hub_replay.specs.FaultLines.{TellsOnce};
 ghost use Rattle.chanhub_tool.specs.declared.fault.StoryFault.{StoryFault};
-ghost use Rattle.chanhub_tool.specs.Explains.{Explains};
+ghost use Rattle.chanhub_tool.specs.Explains.{Explains, IsBegun, IsWhole};
 ghost use Rattle.chanhub_tool.specs.Faults.{fault_line, status_of};
 ghost use Rattle.chanhub_tool.specs.Promises.{HasRefused};
 
@@ -28,14 +27,14 @@ pub fn explain<S: Source, W: Sink, X: Sink>(
 ) -> u8
     ensures statuses { result ≤ 2 }
     ensures done { result ≡ 0 → Explains asked (S.remaining input.old) (S.remaining input.new)
-        (Appends (W.contents output.old) (W.contents output.new)) × (errors.new ≡ errors.old) }
+        (W.contents output.old) (W.contents output.new) IsWhole × (errors.new ≡ errors.old) }
     ensures refused { ¬ (result ≡ 0) → (fault : StoryFault) × (result ≡ status_of fault)
         × HasRefused asked (S.remaining input.old) (S.remaining input.new) (output.new ≡ output.old)
         (Failed (S.failures input.old) (S.failures input.new))
         (Failed (W.failures output.old) (W.failures output.new))
         (W.failures output.new ≡ W.failures output.old)
         (Explains asked (S.remaining input.old) (S.remaining input.new)
-        (AppendsBeginning (W.contents output.old) (W.contents output.new))) fault
+        (W.contents output.old) (W.contents output.new) IsBegun) fault
         × TellsOnce (X.contents errors.old) (X.contents errors.new)
         (X.failures errors.old) (X.failures errors.new) (fault_line fault) }
 {

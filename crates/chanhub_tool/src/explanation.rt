@@ -1,23 +1,24 @@
 //! What is asked of a journal.
 
-ghost use Rattle.std.specs.Prelude.{◌≡◌, ◌<◌, ◌-◌, ◌^◌, length, IfOk, IfErr, OnOk};
-ghost use Rattle.std.specs.Io.KnownBytes.{Appends};
+ghost use Rattle.std.specs.Prelude.{◌≡◌, ◌<◌, ◌-◌, ◌^◌, length, IfOk, IfErr, OnErr, OnOk};
 ghost use Rattle.hub_base.specs.ReadJournal.{IsFaultOf};
 ghost use Rattle.hub_base.specs.Head.{IsHead};
 ghost use Rattle.hub_base.specs.Text.{IsText};
-ghost use Rattle.hub_replay.specs.Devices.{AppendsBeginning, Failed};
-ghost use Rattle.chanhub_tool.specs.Explains.{Explains, Shows};
-ghost use Rattle.chanhub_tool.specs.Promises.{EndsEarly, HasNoMemory, HasRefused};
+ghost use Rattle.hub_replay.specs.Devices.{Failed};
+ghost use Rattle.hub_replay.specs.ViewFaults.{Fails};
+ghost use Rattle.chanhub_tool.specs.Explains.{Explains, Grows, IsBegun, IsWhole};
+ghost use Rattle.chanhub_tool.specs.Promises.{HasRefused};
 
 use crate::asked::{Asked, Form, window_of};
-use crate::commands::{diagram_of, picture_of, story_of_steps, trace_of, write_page_of};
+use crate::commands::write_picture;
 use crate::fault::StoryFault;
 use hub_base::{MOST_BYTES, ReadFault};
 use hub_core::{ShortJournal, read_short_journal};
-use hub_page::{room, write_text};
-use hub_replay::{ReplayFault, Sink, Source, read_up_to};
-use hub_story::Window;
-use hub_story_text::PackedText;
+use hub_page::write_page;
+use hub_replay::{Sink, Source, ViewFault, read_up_to};
+use hub_story::{Window, story_of};
+use hub_story_text::write_story;
+use hub_trace::{write_diagram, write_trace};
 use std::alloc::Global;
 
 /// The journal that these bytes are the text of. They are let go.
@@ -28,48 +29,26 @@ fn journal_of(alloc: Global, bytes: Vec<u8>) -> Result<ShortJournal, ReadFault>
     read_short_journal(alloc, &bytes)
 }
 
-/// Writes a text that is made.
-fn write_made<W: Sink>(alloc: Global, text: PackedText, output: &mut W) -> Result<(), ReplayFault>
-    ensures ok { OnOk result (Appends (W.contents output.old) (W.contents output.new) text.items) }
-    ensures err { IfErr result (EndsEarly (output.new ≡ output.old)
-        (Failed (W.failures output.old) (W.failures output.new))
-        (AppendsBeginning (W.contents output.old) (W.contents output.new) text.items)) }
-{
-    let mut bytes = room(alloc)?;
-    write_text(output, &text, &mut bytes)?;
-    Ok(())
-}
-
-/// Writes these steps of a journal in this form. But for a page all is made before anything is written.
+/// Writes these steps of a journal in this form.
 fn write_form<W: Sink>(
     alloc: Global,
     form: Form,
     journal: &ShortJournal,
     window: Window,
     output: &mut W,
-) -> Result<(), ReplayFault>
+) -> Result<(), ViewFault>
     requires head { IsHead journal.now.head }
     requires few { length journal.now.entries < 2 ^ 32 - 1 }
-    ensures ok { OnOk result (Shows form window journal.now (Appends (W.contents output.old) (W.contents output.new))) }
-    ensures err { IfErr result (EndsEarly
-        (HasNoMemory form (output.new ≡ output.old)
-        ((W.failures output.new ≡ W.failures output.old)
-        × Shows form window journal.now (AppendsBeginning (W.contents output.old) (W.contents output.new))))
-        (Failed (W.failures output.old) (W.failures output.new))
-        (Shows form window journal.now (AppendsBeginning (W.contents output.old) (W.contents output.new)))) }
+    ensures whole { OnOk result (Grows (W.contents output.old) (W.contents output.new) (IsWhole form window journal.now)) }
+    ensures beginning { OnErr result (Grows (W.contents output.old) (W.contents output.new) (IsBegun form window journal.now)) }
+    ensures err { IfErr result (Fails (W.failures output.old) (W.failures output.new)) }
 {
     match form {
-        Form::Text(paint) => {
-            write_made(
-                alloc,
-                story_of_steps(alloc, journal, window, paint)?,
-                output,
-            )
-        }
-        Form::Picture => write_made(alloc, picture_of(alloc, journal, window)?, output),
-        Form::Mermaid => write_made(alloc, diagram_of(alloc, journal, window)?, output),
-        Form::Trace => write_made(alloc, trace_of(alloc, journal)?, output),
-        Form::Page => Ok(write_page_of(alloc, journal, window, output)?),
+        Form::Text(paint) => write_story(alloc, journal, window, paint, output),
+        Form::Picture => write_picture(alloc, journal, &story_of(alloc, journal)?, window, output),
+        Form::Mermaid => write_diagram(alloc, journal, &story_of(alloc, journal)?, window, output),
+        Form::Trace => write_trace(alloc, journal, &story_of(alloc, journal)?, output),
+        Form::Page => write_page(alloc, journal, &story_of(alloc, journal)?, window, output),
     }
 }
 
@@ -82,14 +61,14 @@ pub(crate) fn write_explanation<S: Source, W: Sink>(
     output: &mut W,
 ) -> Result<(), StoryFault>
     ensures ok { OnOk result (Explains asked (S.remaining input.old) (S.remaining input.new)
-        (Appends (W.contents output.old) (W.contents output.new))) }
+        (W.contents output.old) (W.contents output.new) IsWhole) }
     ensures err { IfErr result (HasRefused asked (S.remaining input.old) (S.remaining input.new)
         (output.new ≡ output.old)
         (Failed (S.failures input.old) (S.failures input.new))
         (Failed (W.failures output.old) (W.failures output.new))
         (W.failures output.new ≡ W.failures output.old)
         (Explains asked (S.remaining input.old) (S.remaining input.new)
-        (AppendsBeginning (W.contents output.old) (W.contents output.new)))) }
+        (W.contents output.old) (W.contents output.new) IsBegun)) }
 {
     let bytes = read_up_to(alloc, input, MOST_BYTES)?;
     let journal = journal_of(alloc, bytes)?;

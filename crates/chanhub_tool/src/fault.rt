@@ -8,7 +8,7 @@ ghost use Rattle.chanhub_tool.specs.Faults.{fault_line, status_of};
 pub(crate) use hub_replay::tell_fault as tell;
 use hub_replay::{ProgramFault, ReplayFault, Sink, WriteFailed, write_pieces};
 
-/// Why a journal was not explained. Nothing was written, but for a beginning where a write failed, or memory for a page was refused.
+/// Why a journal was not explained. Nothing was written, but for a beginning where a write failed, or memory was refused.
 #[derive(Clone, Copy, Debug, PartialEq, Eq)]
 pub enum StoryFault {
     /// The first step that is asked for stands behind the last.

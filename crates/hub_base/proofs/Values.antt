@@ -55,11 +55,11 @@ small-content (Bytes bs) h =
     (leb-true (length bs) MOST_VALUE_BYTES both.0, bytes-below bs both.1)
 
 -- ---- what is stored
-abbrev formed : (form : ℕ) (places : List ℕ) → is_stored form places ≡ true → Value
+abbrev pub formed : (form : ℕ) (places : List ℕ) → is_stored form places ≡ true → Value
 formed form places is = record { form = form; bytes = places; stored = is }
 
 -- two values that are stored in one way are one
-formed-same : (form other : ℕ) (places others : List ℕ) (p : is_stored form places ≡ true) (q : is_stored other others ≡ true)
+pub formed-same : (form other : ℕ) (places others : List ℕ) (p : is_stored form places ≡ true) (q : is_stored other others ≡ true)
     → form ≡ other → places ≡ others → formed form places p ≡ formed other others q
 formed-same form other places others p q same all =
     subst (λ (k : ℕ). (r : is_stored k others ≡ true) → formed form places p ≡ formed k others r) same

@@ -6,39 +6,28 @@ use Rattle.hub_base.specs.declared.fault.Fault.TheVariants.{TooManyPorts, NilClo
 use Rattle.hub_base.specs.declared.read_fault.Kind.{Kind}
 use Rattle.hub_base.specs.declared.read_fault.Kind.TheVariants as kind
 
--- the number of a fault
-abbrev pub fault_number : Fault → ℕ
-fault_number NoProcess = 1
-fault_number Gone = 2
-fault_number Busy = 3
-fault_number TooManyCases = 4
-fault_number NoPort = 5
-fault_number BadCap = 6
-fault_number TooManyPorts = 7
-fault_number NilClose = 8
-fault_number AlreadyClosed = 9
-fault_number JournalFull = 10
-fault_number NoMemory = 11
-fault_number NotParked = 12
-fault_number InUse = 16
-fault_number NotGone = 17
+-- the number of a fault, and why a step had no effect, in words
+abbrev pub fault_row : Fault → ℕ × List ℕ
+fault_row NoProcess = (1, codes "no such process")
+fault_row Gone = (2, codes "the process has exited")
+fault_row Busy = (3, codes "the process has an open call")
+fault_row TooManyCases = (4, codes "too many cases")
+fault_row NoPort = (5, codes "no such port")
+fault_row BadCap = (6, codes "the capacity is too large")
+fault_row TooManyPorts = (7, codes "too many ports")
+fault_row NilClose = (8, codes "close of the nil port")
+fault_row AlreadyClosed = (9, codes "close of a closed port")
+fault_row JournalFull = (10, codes "the journal is full")
+fault_row NoMemory = (11, codes "out of memory")
+fault_row NotParked = (12, codes "no open call")
+fault_row InUse = (16, codes "the port is in use")
+fault_row NotGone = (17, codes "the process has not exited")
 
--- why a step had no effect, in words
+abbrev pub fault_number : Fault → ℕ
+fault_number f = (fault_row f).0
+
 abbrev pub fault_text : Fault → List ℕ
-fault_text NoProcess = codes "no such process"
-fault_text Gone = codes "the process has exited"
-fault_text Busy = codes "the process has an open call"
-fault_text TooManyCases = codes "too many cases"
-fault_text NoPort = codes "no such port"
-fault_text BadCap = codes "the capacity is too large"
-fault_text TooManyPorts = codes "too many ports"
-fault_text NilClose = codes "close of the nil port"
-fault_text AlreadyClosed = codes "close of a closed port"
-fault_text JournalFull = codes "the journal is full"
-fault_text NoMemory = codes "out of memory"
-fault_text NotParked = codes "no open call"
-fault_text InUse = codes "the port is in use"
-fault_text NotGone = codes "the process has not exited"
+fault_text f = (fault_row f).1
 
 -- the number of a kind, and what is wrong with a journal's line, in two words
 abbrev pub kind_row : Kind → ℕ × List ℕ

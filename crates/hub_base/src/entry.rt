@@ -155,20 +155,18 @@ impl EntryRef<'_> {
     }
 }
 
-impl Step {
-    /// The same step, whose cases stay where they are.
+impl<C> Step<C> {
+    ghost use Rattle.hub_base.specs.Entry.{with_cases};
+
+    /// The same step, with these cases if it is a call.
     #[inline(always)]
-    pub fn by_slice(&self) -> StepRef<'_>
-        ensures { result ≡ self.now }
+    pub fn with_cases<D: Drop>(&self, cases: D) -> Step<D>
+        ensures { result ≡ with_cases self.now cases }
     {
         match self {
             Step::Make(cap) => Step::Make(*cap),
-            Step::Call {
+            Step::Call { default, word, .. } => Step::Call {
                 cases,
-                default,
-                word,
-            } => Step::Call {
-                cases: CaseSlice::of(cases),
                 default: *default,
                 word: *word,
             },
@@ -180,6 +178,19 @@ impl Step {
                 port: *port,
                 cap: *cap,
             },
+        }
+    }
+}
+
+impl Step {
+    /// The same step, whose cases stay where they are.
+    #[inline(always)]
+    pub fn by_slice(&self) -> StepRef<'_>
+        ensures { result ≡ self.now }
+    {
+        match self {
+            Step::Call { cases, .. } => self.with_cases(CaseSlice::of(cases)),
+            _ => self.with_cases(CaseSlice::few(&[])),
         }
     }
 }

@@ -30,21 +30,16 @@ any_front : (test : OpenCall → Bool) (xs ys : List OpenCall) → list_any test
 any_front test xs ys e = list_any-append test xs ys ∙ or_left (list_any test xs) (list_any test ys) e
 
 -- those before it could not meet it
-alone_recv : (p : Port) (xs ys : List OpenCall) (y : OpenCall) → Alone p (xs ++ y ∷ ys) → list_any (is_send_on p) y.cases ≡ true →
-    some_call (is_recv_on p) xs ≡ false
-alone_recv p [] ys y a e = refl
-alone_recv p (x ∷ xs) ys y a e =
-    let later = any_mid (λ c. list_any (is_send_on p) c.cases) xs ys y e in
-    or_from (list_any (is_recv_on p) x.cases) (some_call (is_recv_on p) xs)
-    (false_from_ne_true (list_any (is_recv_on p) x.cases) (λ r. let none = a.0 r in cc)) (alone_recv p xs ys y a.2 e)
+abbrev NeverMeets : Port → (Case → Bool) → (Case → Bool) → Type 0
+NeverMeets p theirs mine = (x : OpenCall) (xs : List OpenCall) → Alone p (x ∷ xs) → list_any theirs x.cases ≡ true → some_call mine xs ≡ false
 
-alone_send : (p : Port) (xs ys : List OpenCall) (y : OpenCall) → Alone p (xs ++ y ∷ ys) → list_any (is_recv_on p) y.cases ≡ true →
-    some_call (is_send_on p) xs ≡ false
-alone_send p [] ys y a e = refl
-alone_send p (x ∷ xs) ys y a e =
-    let later = any_mid (λ c. list_any (is_recv_on p) c.cases) xs ys y e in
-    or_from (list_any (is_send_on p) x.cases) (some_call (is_send_on p) xs)
-    (false_from_ne_true (list_any (is_send_on p) x.cases) (λ r. let none = a.1 r in cc)) (alone_send p xs ys y a.2 e)
+alone : (p : Port) (theirs mine : Case → Bool) → NeverMeets p theirs mine → (xs ys : List OpenCall) (y : OpenCall) → Alone p (xs ++ y ∷ ys) →
+    list_any mine y.cases ≡ true → some_call theirs xs ≡ false
+alone p theirs mine apart [] ys y a e = refl
+alone p theirs mine apart (x ∷ xs) ys y a e =
+    let later = any_mid (λ c. list_any mine c.cases) xs ys y e in
+    or_from (list_any theirs x.cases) (some_call theirs xs)
+    (false_from_ne_true (list_any theirs x.cases) (λ r. let none = apart x (xs ++ y ∷ ys) a r in cc)) (alone p theirs mine apart xs ys y a.2 e)
 
 -- None of its cases can proceed
 
@@ -56,27 +51,29 @@ with_calls s calls = record s { parked = calls }
 abbrev Here : State → List OpenCall → OpenCall → List OpenCall → Type 0
 Here s xs y ys = (p : Port) (c : Channel) → channel_at s p ≡ Some c → PortSound p c (xs ++ y ∷ ys)
 
+-- a call waits on a port that is open then, and none that waits before it meets it
+waits : (p : Port) (theirs mine : Case → Bool) → NeverMeets p theirs mine → (xs ys : List OpenCall) (y : OpenCall) (c : Channel) → Alone p (xs ++ y ∷ ys) →
+    (c.closed ≡ true → some_call mine (xs ++ y ∷ ys) ≡ false) → list_any mine y.cases ≡ true →
+    (some_call mine (xs ++ y ∷ ys) ≡ true) × (c.closed ≡ false) × (is_some (first_with theirs xs) ≡ false)
+waits p theirs mine apart xs ys y c a ended e =
+    let all = any_mid (λ x. list_any mine x.cases) xs ys y e in
+    (all, false_from_ne_true c.closed (λ h. let none = ended h in cc), first-some theirs xs ∙ alone p theirs mine apart xs ys y a e)
+
 send_stuck : (s : State) (xs ys : List OpenCall) (y : OpenCall) (p : Port) (c : Channel) → PortSound p c (xs ++ y ∷ ys) →
-    list_any (is_send_on p) y.cases ≡ true →
-    send_can (with_calls s xs) p c ≡ false
+    list_any (is_send_on p) y.cases ≡ true → send_can (with_calls s xs) p c ≡ false
 send_stuck s xs ys y p c f e =
-    let mine : some_call (is_send_on p) (xs ++ y ∷ ys) ≡ true = any_mid (λ x. list_any (is_send_on p) x.cases) xs ys y e in
-    let live : c.closed ≡ false = false_from_ne_true c.closed (λ h. let none = (f.ended h).1 in cc) in
-    let nobody : is_some (first_with (is_recv_on p) xs) ≡ false = first-some (is_recv_on p) xs ∙ alone_recv p xs ys y f.alone e in
-    let size = f.senders mine in
+    let w = waits p (is_recv_on p) (is_send_on p) (λ x zs a. a.0) xs ys y c f.alone (λ h. (f.ended h).1) e in
+    let size = f.senders w.0 in
     let full : nat_lt (length c.sent - c.received) c.cap ≡ false = grind arith in
-    rw (live, nobody, full) refl
+    rw (w.1, w.2, full) refl
 
 recv_stuck : (s : State) (xs ys : List OpenCall) (y : OpenCall) (p : Port) (c : Channel) → PortSound p c (xs ++ y ∷ ys) →
-    list_any (is_recv_on p) y.cases ≡ true →
-    recv_can (with_calls s xs) p c ≡ false
+    list_any (is_recv_on p) y.cases ≡ true → recv_can (with_calls s xs) p c ≡ false
 recv_stuck s xs ys y p c f e =
-    let mine : some_call (is_recv_on p) (xs ++ y ∷ ys) ≡ true = any_mid (λ x. list_any (is_recv_on p) x.cases) xs ys y e in
-    let live : c.closed ≡ false = false_from_ne_true c.closed (λ h. let none = (f.ended h).0 in cc) in
-    let nobody : is_some (first_with (is_send_on p) xs) ≡ false = first-some (is_send_on p) xs ∙ alone_send p xs ys y f.alone e in
-    let size = f.receivers mine in
+    let w = waits p (is_send_on p) (is_recv_on p) (λ x zs a. a.1) xs ys y c f.alone (λ h. (f.ended h).0) e in
+    let size = f.receivers w.0 in
     let empty : nat_lt c.received (length c.sent) ≡ false = grind arith in
-    rw (live, nobody, empty) refl
+    rw (w.1, w.2, empty) refl
 
 or_false : (f : Channel → Bool) (o : Option Channel) → ((c : Channel) → o ≡ Some c → f c ≡ false) → option_map_or f o false ≡ false
 or_false f None h = refl

@@ -5,7 +5,7 @@ use Rattle.std.proofs.lemmas.Grind.{common_steps}
 use Rattle.std.specs.Prelude.{OnOk, OnErr}
 use Rattle.hub_base.specs.declared.value.Pid.{Pid}
 use Rattle.hub_base.specs.Entry.{Entry, Step}
-use Rattle.hub_base.specs.declared.entry.Step.TheVariants.{Make, Call, Close, Exit, Cancel, Start, Reopen}
+use Rattle.hub_base.specs.declared.entry.Step.TheVariants.{Make, Close, Exit, Cancel, Start, Reopen}
 use Rattle.hub_base.specs.declared.event.Event.{Event}
 use Rattle.hub_base.specs.declared.event.What.TheVariants as what
 use Rattle.hub_base.specs.declared.fault.Fault.{Fault}
@@ -108,6 +108,12 @@ tells_fault {E} {S} {heard} {room} {old} {pid} {before} {after} step f fault tol
       silent = tt;
     }
 
+-- as such a step is
+pub is_told : {E S : Type 0} {heard : S → List Event → S → Type 0} {room : S → ℕ} {old : MachineLists} {pid : Pid} {before after : S}
+    {step is : Step} {f : Fault} {found : Option Fault} → step ≡ is → found ≡ fault_on old.edition old.board old.gone is → found ≡ Some f
+    → Heard heard room before after (tells pid (what.Fault f) ∷ []) → Acts {E = E} heard room old pid step old before after (Ok tt)
+is_told {is = is} {f = f} same found some told = rw same (tells_fault is f (sym found ∙ some) told)
+
 -- a make, which memory may be refused
 pub makes_or_not : {E S : Type 0} {heard : S → List Event → S → Type 0} {room : S → ℕ} {old new : MachineLists} {pid : Pid} {before after : S}
     (step : Step) (result : Result (Unit {0}) E) → TakesMemory step → fault_on old.edition old.board old.gone step ≡ None
@@ -126,13 +132,8 @@ makes_or_not {E} {S} {heard} {room} {old} {new} {pid} {before} {after} step resu
 
 -- ---- the stall rule behind it
 effect-steps : (m : MachineLists) (pid : Pid) (step : Step) → (effect_on m pid step).machine.steps ≡ m.steps
-effect-steps m pid (Make cap) = refl
-effect-steps m pid (Call cases default word) = refl
-effect-steps m pid (Close p) = refl
 effect-steps m pid Exit = refl
-effect-steps m pid (Cancel q) = refl
-effect-steps m pid (Start q) = refl
-effect-steps m pid (Reopen p cap) = refl
+effect-steps m pid other = refl
 
 acts_by-steps : (m : MachineLists) (pid : Pid) (step : Step) (o : Option Fault) → (acts_by m pid step o).machine.steps ≡ m.steps
 acts_by-steps m pid step None = effect-steps m pid step

@@ -73,30 +73,35 @@ makes_on-as s m pid cap h = record {
 }
 
 -- ---- an exit
+-- who has exited where this is set of one
+gone-set : (gone : List Bool) (p q : ℕ) (now same : Bool) → p < length gone → (p == q) ≡ same
+    → gone_on (slice_set gone p now) q ≡ cond same now (gone_on gone q)
+gone-set gone p q now true room is =
+    subst (λ (n : ℕ). gone_on (slice_set gone p now) n ≡ now) (eqb-true p q is) (get_or-set_same gone p now false room)
+gone-set gone p q now false room is = get_or-set_other gone p q now false (differs p q is)
+  where
+    differs : (a b : ℕ) → (a == b) ≡ false → b ≢ a
+    differs a b is = λ e. grind (arith, common_steps)
+
 -- a process has exited then if it had, or is the one that exits
 pub gone-more : (gone : List Bool) (pid q : ℕ) (same : Bool) → pid < length gone → (pid == q) ≡ same
     → gone_on (slice_set gone pid true) q ≡ (gone_on gone q || same)
-gone-more gone pid q true room is =
-    let here : gone_on (slice_set gone pid true) pid ≡ true = get_or-set_same gone pid true false room in
-    subst (λ (n : ℕ). gone_on (slice_set gone pid true) n ≡ true) (eqb-true pid q is) here ∙ sym (or-true (gone_on gone q))
-gone-more gone pid q false room is =
-    let other : q ≢ pid = λ e. differs pid q is e in
-    get_or-set_other gone pid q true false other ∙ sym (or-false (gone_on gone q)) where
-      differs : (a b : ℕ) → (a == b) ≡ false → b ≡ a → ⊥
-      differs a b is e = grind (arith, common_steps)
+gone-more gone pid q same room is = gone-set gone pid q true same room is ∙ either (gone_on gone q) same
+  where
+    either : (b same : Bool) → cond same true b ≡ (b || same)
+    either b true = sym (or-true b)
+    either b false = sym (or-false b)
+
+-- where others have exited
+goes : (s : State) (m : MachineLists) (pids : List Pid) (gone : List Bool) → Matches s m → ((q : ℕ) → gone_on gone q ≡ list_any (λ g. g.0 == q) pids)
+    → Matches (record s { gone = pids }) (record m { gone = gone })
+goes s m pids gone h each = record { edition = h.edition; procs = h.procs; calls = h.calls; ports = h.ports; counts = h.counts; gone = each }
 
 exits_on-as : (s : State) (m : MachineLists) (pid : Pid) → Matches s m → pid.0 < length m.gone → StepsAs (exits s pid) (exits_on m pid)
 exits_on-as s m pid h room = record {
   events = refl;
-  state = record {
-    edition = h.edition;
-    procs = h.procs;
-    calls = h.calls;
-    ports = h.ports;
-    counts = h.counts;
-    gone = λ q.
-        gone-more m.gone pid.0 q (pid.0 == q) room refl ∙ ap (λ b. b || (pid.0 == q)) (h.gone q) ∙ sym (any_snoc (λ g. g.0 == q) s.gone pid);
-  };
+  state = goes s m (s.gone ++ pid ∷ []) (slice_set m.gone pid.0 true) h (λ q.
+      gone-more m.gone pid.0 q (pid.0 == q) room refl ∙ ap (λ b. b || (pid.0 == q)) (h.gone q) ∙ sym (any_snoc (λ g. g.0 == q) s.gone pid));
 }
 
 -- ---- a cancel
@@ -127,28 +132,18 @@ gone-within (g ∷ gs) (suc q) h = omega (arith, gone-within gs q h)
 -- a process has exited then if it had, and is not the one that is started
 pub gone-fewer : (gone : List Bool) (p q : ℕ) (same : Bool) → p < length gone → (p == q) ≡ same
     → gone_on (slice_set gone p false) q ≡ (gone_on gone q && not same)
-gone-fewer gone p q true room is =
-    let here : gone_on (slice_set gone p false) p ≡ false = get_or-set_same gone p false false room in
-    subst (λ (n : ℕ). gone_on (slice_set gone p false) n ≡ false) (eqb-true p q is) here ∙ sym (and-false (gone_on gone q))
-gone-fewer gone p q false room is =
-    let other : q ≢ p = λ e. differs p q is e in
-    get_or-set_other gone p q false false other ∙ sym (and-true (gone_on gone q)) where
-      differs : (a b : ℕ) → (a == b) ≡ false → b ≡ a → ⊥
-      differs a b is e = grind (arith, common_steps)
+gone-fewer gone p q same room is = gone-set gone p q false same room is ∙ both (gone_on gone q) same
+  where
+    both : (b same : Bool) → cond same false b ≡ (b && not same)
+    both b true = sym (and-false b)
+    both b false = sym (and-true b)
 
 starts_on-as : (s : State) (m : MachineLists) (pid q : Pid) → Matches s m → gone_on m.gone q.0 ≡ true → StepsAs (starts s pid q) (starts_on m pid q)
 starts_on-as s m pid q h some = record {
   events = refl;
-  state = record {
-    edition = h.edition;
-    procs = h.procs;
-    calls = h.calls;
-    ports = h.ports;
-    counts = h.counts;
-    gone = λ r.
-        gone-fewer m.gone q.0 r (q.0 == r) (gone-within m.gone q.0 some) refl ∙ ap (λ b. b && not (q.0 == r)) (h.gone r)
-        ∙ sym (any-but r q.0 s.gone);
-  };
+  state = goes s m (filter (λ g. not (g.0 == q.0)) s.gone) (slice_set m.gone q.0 false) h (λ r.
+      gone-fewer m.gone q.0 r (q.0 == r) (gone-within m.gone q.0 some) refl ∙ ap (λ b. b && not (q.0 == r)) (h.gone r)
+      ∙ sym (any-but r q.0 s.gone));
 }
 
 -- ---- a reopen

@@ -27,18 +27,11 @@ pub record Own (b : Brief) (n : ℕ) (all : List Case) : Type 0 where
   pub within : n + case_count b ≤ length all → first_of b + case_count b ≤ length all
 
 pub own_there : (b : Brief) (n : ℕ) (all : List Case) → BeginsAt n b → Own b n all
-own_there (brief.Send pid p number) n all begins = record { own = refl; within = λ fits. omega arith }
-own_there (brief.Recv pid p) n all begins = record { own = refl; within = λ fits. omega arith }
 own_there (brief.Call pid default count first word) n all begins = record {
   own = ap (λ k. take count (drop k all)) (sym begins);
   within = λ fits. omega (arith, begins, fits);
 }
-own_there (brief.Make pid cap) n all begins = record { own = refl; within = λ fits. omega arith }
-own_there (brief.Close pid p) n all begins = record { own = refl; within = λ fits. omega arith }
-own_there (brief.Exit pid) n all begins = record { own = refl; within = λ fits. omega arith }
-own_there (brief.Cancel pid q) n all begins = record { own = refl; within = λ fits. omega arith }
-own_there (brief.Start pid q) n all begins = record { own = refl; within = λ fits. omega arith }
-own_there (brief.Reopen pid p cap) n all begins = record { own = refl; within = λ fits. omega arith }
+own_there other n all begins = record { own = refl; within = λ fits. omega arith }
 
 take_all : (n : ℕ) (cs ds : List Case) → cs ≡ [] → n ≡ length ds → take n (cs ++ ds) ≡ ds
 take_all n cs ds none is = (λ i. take (is i) (none i ++ ds)) ∙ take-length ds
@@ -200,26 +193,12 @@ mapped-is f None b is = absurd (none-some b is)
 mapped-is f (Some e) b is = same_Some (f e) b is
 
 pub same_pid : (b : Brief) (cs ds : List Case) → (entry_of b cs).pid ≡ (entry_of b ds).pid
-same_pid (brief.Send pid p number) cs ds = refl
-same_pid (brief.Recv pid p) cs ds = refl
-same_pid (brief.Call pid default count first word) cs ds = refl
-same_pid (brief.Make pid cap) cs ds = refl
-same_pid (brief.Close pid p) cs ds = refl
 same_pid (brief.Exit pid) cs ds = refl
-same_pid (brief.Cancel pid q) cs ds = refl
-same_pid (brief.Start pid q) cs ds = refl
-same_pid (brief.Reopen pid p cap) cs ds = refl
+same_pid other cs ds = refl
 
 pub same_kind : (b : Brief) (cs ds : List Case) → is_call (entry_of b cs).step ≡ is_call (entry_of b ds).step
-same_kind (brief.Send pid p number) cs ds = refl
-same_kind (brief.Recv pid p) cs ds = refl
-same_kind (brief.Call pid default count first word) cs ds = refl
-same_kind (brief.Make pid cap) cs ds = refl
-same_kind (brief.Close pid p) cs ds = refl
 same_kind (brief.Exit pid) cs ds = refl
-same_kind (brief.Cancel pid q) cs ds = refl
-same_kind (brief.Start pid q) cs ds = refl
-same_kind (brief.Reopen pid p cap) cs ds = refl
+same_kind other cs ds = refl
 
 -- a brief with its cases
 pub record Stands (bs : List Brief) (left all : List Case) (i : ℕ) (b : Brief) : Type 0 where

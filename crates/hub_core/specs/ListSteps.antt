@@ -99,7 +99,7 @@ pub record ListChange : Type 0 where
 
 -- the machine with this board and these counts
 abbrev pub with_board : MachineLists → Lists → List Tally → MachineLists
-with_board m b ts = record { edition = m.edition; board = b; gone = m.gone; counts = ts; steps = m.steps }
+with_board m b ts = record m { board = b; counts = ts }
 
 -- what follows a call
 abbrev pub after_call : MachineLists → ListCall → ListChange
@@ -129,16 +129,7 @@ makes_on m pid cap =
 -- an exit
 abbrev pub exits_on : MachineLists → Pid → ListChange
 exits_on m pid =
-    record {
-      machine = record {
-        edition = m.edition;
-        board = m.board;
-        gone = slice_set m.gone pid.0 true;
-        counts = m.counts;
-        steps = m.steps;
-      };
-      events = tells pid what.Done ∷ [];
-    }
+    record { machine = record m { gone = slice_set m.gone pid.0 true }; events = tells pid what.Done ∷ [] }
 
 -- a cancel of this process's open call
 abbrev pub cancels_on : MachineLists → Pid → Pid → ListChange
@@ -151,16 +142,7 @@ cancels_on m pid q =
 -- a start of this process
 abbrev pub starts_on : MachineLists → Pid → Pid → ListChange
 starts_on m pid q =
-    record {
-      machine = record {
-        edition = m.edition;
-        board = m.board;
-        gone = slice_set m.gone q.0 false;
-        counts = m.counts;
-        steps = m.steps;
-      };
-      events = tells pid what.Done ∷ [];
-    }
+    record { machine = record m { gone = slice_set m.gone q.0 false }; events = tells pid what.Done ∷ [] }
 
 -- a reopen
 abbrev pub reopens_on : MachineLists → Pid → Port → ℕ → ListChange

@@ -43,27 +43,13 @@ places_asked s = if is_exit s then 1 else MOST_PROCS + 1
 
 -- how many cases are not kept with it
 abbrev pub case_count : Brief → ℕ
-case_count (brief.Send pid p number) = 0
-case_count (brief.Recv pid p) = 0
 case_count (brief.Call pid default count first word) = count
-case_count (brief.Make pid cap) = 0
-case_count (brief.Close pid p) = 0
-case_count (brief.Exit pid) = 0
-case_count (brief.Cancel pid q) = 0
-case_count (brief.Start pid q) = 0
-case_count (brief.Reopen pid p cap) = 0
+case_count other = 0
 
 -- where these begin among those of all entries
 abbrev pub first_of : Brief → ℕ
-first_of (brief.Send pid p number) = 0
-first_of (brief.Recv pid p) = 0
 first_of (brief.Call pid default count first word) = first
-first_of (brief.Make pid cap) = 0
-first_of (brief.Close pid p) = 0
-first_of (brief.Exit pid) = 0
-first_of (brief.Cancel pid q) = 0
-first_of (brief.Start pid q) = 0
-first_of (brief.Reopen pid p cap) = 0
+first_of other = 0
 
 -- they begin there
 abbrev pub BeginsAt : ℕ → Brief → Type 0

@@ -12,7 +12,7 @@ ghost use Rattle.hub_core.specs.LogView.{case_count, cases_beside, cases_of, ent
 
 use crate::CaseRoom;
 use crate::case_list::CaseList;
-use hub_base::{Case, CaseSlice, Entry, EntryRef, Pid, Port, Step, Value};
+use hub_base::{Case, CaseSlice, Entry, EntryRef, Pid, Port, Step, StepRef, Value};
 use std::alloc::AllocError;
 use std::mem::size_of;
 
@@ -191,19 +191,25 @@ pub(crate) fn keep(
     Ok(())
 }
 
+/// A step of this process.
+#[inline(always)]
+fn entry_by(pid: Pid, step: StepRef<'_>) -> EntryRef<'_>
+    ensures { result ≡ by pid.0 step.entry }
+{
+    Entry { pid, step }
+}
+
 /// A call of this case alone, which is put in the room for it.
 fn call_of_one(pid: Pid, case: Case, room: &mut CaseRoom) -> EntryRef<'_>
     ensures { result ≡ by pid.0 (call (case ∷ []) false 0) }
 {
     room.places[0] = case;
-    Entry {
-        pid,
-        step: Step::Call {
-            cases: CaseSlice::one(&room.places[0]),
-            default: false,
-            word: 0,
-        },
-    }
+    let step = Step::Call {
+        cases: CaseSlice::one(&room.places[0]),
+        default: false,
+        word: 0,
+    };
+    entry_by(pid, step)
 }
 
 impl Brief {
@@ -300,39 +306,22 @@ impl Brief {
             } => {
                 let count = usize::from(count);
                 cases.copy_to(first, count, &mut room.places);
-                Entry {
+                let cases = CaseSlice::few(&room.places[..count]);
+                entry_by(
                     pid,
-                    step: Step::Call {
-                        cases: CaseSlice::few(&room.places[..count]),
+                    Step::Call {
+                        cases,
                         default,
                         word,
                     },
-                }
+                )
             }
-            Brief::Make { pid, cap } => Entry {
-                pid,
-                step: Step::Make(cap),
-            },
-            Brief::Close { pid, port } => Entry {
-                pid,
-                step: Step::Close(port),
-            },
-            Brief::Exit { pid } => Entry {
-                pid,
-                step: Step::Exit,
-            },
-            Brief::Cancel { pid, other } => Entry {
-                pid,
-                step: Step::Cancel(other),
-            },
-            Brief::Start { pid, other } => Entry {
-                pid,
-                step: Step::Start(other),
-            },
-            Brief::Reopen { pid, port, cap } => Entry {
-                pid,
-                step: Step::Reopen { port, cap },
-            },
+            Brief::Make { pid, cap } => entry_by(pid, Step::Make(cap)),
+            Brief::Close { pid, port } => entry_by(pid, Step::Close(port)),
+            Brief::Exit { pid } => entry_by(pid, Step::Exit),
+            Brief::Cancel { pid, other } => entry_by(pid, Step::Cancel(other)),
+            Brief::Start { pid, other } => entry_by(pid, Step::Start(other)),
+            Brief::Reopen { pid, port, cap } => entry_by(pid, Step::Reopen { port, cap }),
         }
     }
 

@@ -33,6 +33,7 @@ use Rattle.hub_base.specs.declared.limits.TheConstants.{GREATEST_PID, GREATEST_P
 use Rattle.hub_base.specs.Values.{cases_or}
 use Rattle.hub_cut.specs.declared.limits.TheConstants.{LINE_BYTES, CASE_BYTES, CHECKPOINT_BYTES, CHAPTER_BYTES, MOST_LINE_BYTES}
 use Rattle.hub_cut.specs.ChapterText.{most_line, most_lines, counted, counted_in, FitLines, FitsText}
+use Rattle.hub_cut.proofs.Parts.{checkpoint_parts}
 
 -- Fields
 
@@ -126,13 +127,8 @@ line_kept : (e : Entry) → own_line e ≤ most_line e
 line_kept e = by e.step
   where
     by : (s : Step) → own_line (record { pid = e.pid; step = s }) ≤ most_line (record { pid = e.pid; step = s })
-    by (Make cap) = omega arith
     by (Call cases default word) = omega arith
-    by (Close p) = omega arith
-    by Exit = omega arith
-    by (Cancel q) = omega arith
-    by (Start q) = omega arith
-    by (Reopen p cap) = omega arith
+    by other = omega arith
 
 line_fits : (ed : Edition) (e : Entry) → Fits ed e → length (line e) ≤ own_line e
 unfolding fields_size
@@ -189,18 +185,13 @@ checkpoint_lines : (h : Head) (es : List Entry) → IsHead h → AllByRecursion 
     most_lines (checkpoint (state h es)) ≤ CHECKPOINT_BYTES
 checkpoint_lines h es head fits =
     let s : State = state h es in
-    let ports : List Entry = ports_again 1 s.channels in
-    let exits : List Entry = map exit (exited s) in
-    let calls : List Entry = map call_again s.parked in
     omega (
       arith,
-      most_lines-append (ports ++ exits) calls,
-      most_lines-append ports exits,
-      length-append (ports ++ exits) calls,
-      length-append ports exits,
+      checkpoint_parts most_lines most_lines-append s,
+      checkpoint_parts length length-append s,
       ports_lines 1 s.channels,
       exits_lines (exited s),
-      calls_lines h.edition s.parked (all_behind (Fits h.edition) (ports ++ exits) calls fits),
+      calls_lines h.edition s.parked (all_behind (Fits h.edition) (ports_again 1 s.channels ++ map exit (exited s)) (map call_again s.parked) fits),
       (checkpoint-law h es).short,
       head.1,
       count-law s (state-sound h es),
@@ -245,12 +236,9 @@ calls_no_start (c ∷ cs) = calls_no_start cs
 
 pub checkpoint-no_start : (s : State) → length (all_starts (checkpoint s)) ≡ 0
 checkpoint-no_start s =
-    let ports : List Entry = ports_again 1 s.channels in
-    let exits : List Entry = map exit (exited s) in
     omega (
       arith,
-      starts-append (ports ++ exits) (map call_again s.parked),
-      starts-append ports exits,
+      checkpoint_parts (λ es. length (all_starts es)) starts-append s,
       ports_no_start 1 s.channels,
       exits_no_start (exited s),
       calls_no_start s.parked,
@@ -314,13 +302,8 @@ counts_longer es e ed bytes fits lines =
       where
         by : (s : Step) → (let x : Entry = record { pid = e.pid; step = s } in
             own_line x + LINE_BYTES * (one_step x + length (all_starts (x ∷ []))) ≤ counted x + LINE_BYTES)
-        by (Make cap) = omega arith
         by (Call cases default word) = omega arith
-        by (Close p) = omega arith
-        by Exit = omega arith
-        by (Cancel q) = omega arith
-        by (Start q) = omega arith
-        by (Reopen p cap) = omega arith
+        by other = omega arith
 
 -- a step behind a checkpoint
 counted_most : (e : Entry) → counted e ≤ most_line e

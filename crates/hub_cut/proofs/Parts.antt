@@ -17,7 +17,7 @@ use Rattle.hub_chapters.proofs.Checkpoints.{checkpoint-law}
 use Rattle.hub_chapters.proofs.Chapters.{runs-on}
 use Rattle.hub_cut.specs.Cut.{IsCut, renewed_hub}
 use Rattle.hub_base.specs.Notation.{exit}
-use Rattle.hub_chapters.specs.Checkpoint.{checkpoint, send_again, port_again, ports_again, call_again}
+use Rattle.hub_chapters.specs.Checkpoint.{checkpoint, send_again, port_again, ports_again, call_again, exited}
 use Rattle.hub_cut.specs.Written.{is_gone, one_of, sent_entries, port_entries}
 
 take_suc : {A : Type 0} (f : A → Entry) (n : ℕ) (xs : List A) → map f (take (suc n) xs) ≡ map f (take n xs) ++ one_of f (slice_get xs n)
@@ -117,6 +117,18 @@ all_ports h es n enough = take_all n (state h es).channels (let most = ports-law
 
 pub all_calls : (h : Head) (es : List Entry) (n : ℕ) → h.procs ≤ n → take n (state h es).parked ≡ (state h es).parked
 all_calls h es n enough = take_all n (state h es).parked (let most = count-law (state h es) (state-sound h es) in let n = procs-after h es in omega arith)
+
+-- what adds up over lists adds up over the parts of a checkpoint
+pub checkpoint_parts : (f : List Entry → ℕ) → ((xs ys : List Entry) → f (xs ++ ys) ≡ f xs + f ys) → (s : State)
+    → f (checkpoint s) ≡ f (ports_again 1 s.channels) + f (map exit (exited s)) + f (map call_again s.parked)
+checkpoint_parts f adds s =
+    let ports : List Entry = ports_again 1 s.channels in
+    let exits : List Entry = map exit (exited s) in
+    adds (ports ++ exits) (map call_again s.parked) ∙ ap (λ n. n + f (map call_again s.parked)) (adds ports exits)
+
+-- all processes of a hub, counted
+pub at_procs : (hub : HubView) (head : Head) (n : ℕ) → head ≡ hub.terms.head → head.procs ≤ n → n ≤ head.procs → n ≡ (state_of hub).head.procs
+at_procs hub head n is least most = omega (arith, ap (λ (h : Head). h.procs) is, least, most, procs-after hub.terms.head hub.journal)
 
 -- A cut
 

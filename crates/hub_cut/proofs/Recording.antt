@@ -35,9 +35,9 @@ use Rattle.hub_cut.specs.RecorderKeeps.{RecorderKeeps, shown}
 use Rattle.hub_cut.specs.ChapterText.{most_line, counted, counted_in}
 use Rattle.hub_cut.specs.Cut.{CutsAndSteps, IsCut, Refused}
 use Rattle.hub_cut.specs.Totals.{in_64_bits, totals_of, totals_at, with_base}
-use Rattle.hub_cut.specs.Recorder.{IsRecorder, IsShort, RecorderView, Records, RecordsStep, RefusesStep, head_of_all, is_full}
+use Rattle.hub_cut.specs.Recorder.{FitTexts, GoesOn, IsRecorder, IsShort, RecorderView, Records, RecordsStep, RefusesStep, head_of_all, is_full}
 use Rattle.hub_cut.specs.Recorder.{last_checkpoint, least_of, since_cut, with_next, hub_in, IsKeep, chapter_out, begins, out_or}
-use Rattle.hub_cut.proofs.ChapterTexts.{checkpoint-no_start, counted_in-append, counts_longer, starts-append}
+use Rattle.hub_cut.proofs.ChapterTexts.{checkpoint-no_start, counted_in-append, counts_longer, starts-append, text_fits}
 
 -- The last chapter, and the history
 
@@ -94,6 +94,10 @@ recorder_short r (chapters, so) fits =
       none = λ old. subst (λ (j : List Entry). all_starts j ≡ []) legal (law.none old fits);
     }
 
+-- its two chapters have texts that a reader takes
+pub recorder_texts : (r : Inside) → RecorderKeeps r → FitTexts (shown r)
+recorder_texts r k = (text_fits (hub_in r.present.hub) r.bytes k.head (recorder_legal (shown r) k.recorder) k.lines k.bytes, k.text_before)
+
 -- a process is refused in both for the same
 pub refused_alike : (h : Head) (chapters : Chapters) (journal : List Entry) (pid : Pid) → journal ≡ last_chapter h chapters →
     refusal (state h journal) pid ≡ refusal (state h (history chapters)) pid
@@ -118,17 +122,7 @@ history_next false (Cut chapters later) e = sym (append_assoc (history chapters)
 
 -- the recorder with this entry in its present chapter
 abbrev pub with_fresh : RecorderView → Entry → RecorderView
-with_fresh r e =
-    record {
-      hub = with_entry e r.hub;
-      before = r.before;
-      keep = r.keep;
-      checkpoint = r.checkpoint;
-      fresh = r.fresh + one_step e;
-      bytes = r.bytes + counted e;
-      early = r.early;
-      bases = r.bases;
-    }
+with_fresh r e = record r { hub = with_entry e r.hub; fresh = r.fresh + one_step e; bytes = r.bytes + counted e }
 
 one_more : (n : ℕ) (es : List Entry) (e : Entry) → n ≡ steps_of es → n + one_step e ≡ steps_of (es ++ e ∷ [])
 one_more n es e is = omega (arith, is, steps-append es (e ∷ []))
@@ -210,16 +204,7 @@ records_next (Cut chapters later) r e so admitted room =
 pub records_counted : (chapters : Chapters) (r : RecorderView) (e : Entry) (new : HubView) (fresh bytes : ℕ) → Records chapters r
     → refusal (state_of r.hub) e.pid ≡ None → begins r e.step ≡ false → new ≡ with_entry e r.hub → fresh ≡ r.fresh + one_step e
     → bytes ≡ r.bytes + counted e
-    → Records (with_next false chapters e) (record {
-      hub = new;
-      before = r.before;
-      keep = r.keep;
-      checkpoint = r.checkpoint;
-      fresh = fresh;
-      bytes = bytes;
-      early = r.early;
-      bases = r.bases;
-    })
+    → Records (with_next false chapters e) (record r { hub = new; fresh = fresh; bytes = bytes })
 records_counted chapters r e new fresh bytes so admitted room is steps more = rw (is, steps, more) (records_next chapters r e so admitted room)
 
 -- an entry that is no exit counts, and an exit does not
@@ -233,33 +218,28 @@ none_counts e n m is =
     let none : m ≡ m + 0 = omega arith in
     (zero ∙ ap (λ b. n + cond b 0 1) (sym is), none ∙ ap (λ b. m + cond b 0 (most_line e)) (sym is))
 
+-- what the step does to the history
+goes_on_as : (r new : RecorderView) (e : Entry) (told : List Event) (chapters : Chapters) → Records chapters r → refusal (state_of r.hub) e.pid ≡ None
+    → told ≡ (moves (state_of r.hub) e).events → Records (with_next (begins r e.step) chapters e) new → GoesOn r chapters e new told
+goes_on_as r new e told chapters so admitted events records = record {
+  admitted = sym (refused_alike (head_of_all r) chapters r.hub.journal e.pid so.present) ∙ admitted;
+  events = events ∙ told_alike (head_of_all r) chapters r.hub.journal e so.present;
+  history = history_next (begins r e.step) chapters e;
+  records = records;
+}
+
 pub goes_next : (r : RecorderView) (e : Entry) (told : List Event) (new : HubView) (fresh bytes : ℕ) → begins r e.step ≡ false
     → Steps r.hub e new told → fresh ≡ r.fresh + one_step e → bytes ≡ r.bytes + counted e
-    → RecordsStep r e (record {
-      hub = new;
-      before = r.before;
-      keep = r.keep;
-      checkpoint = r.checkpoint;
-      fresh = fresh;
-      bytes = bytes;
-      early = r.early;
-      bases = r.bases;
-    }) told
-goes_next r e told new fresh bytes full s steps more =
-    let h : Head = head_of_all r in
-    record {
-      goes_on = λ chapters so. record {
-        admitted = sym (refused_alike h chapters r.hub.journal e.pid so.present) ∙ s.admitted;
-        events = s.events ∙ told_alike h chapters r.hub.journal e so.present;
-        history = history_next (begins r e.step) chapters e;
-        records = rw full (records_counted chapters r e new fresh bytes so s.admitted full s.journal steps more);
-      };
-      terms = ap (λ (x : HubView). x.terms) s.journal;
-      keep = refl;
-      early = rw full refl;
-    }
+    → RecordsStep r e (record r { hub = new; fresh = fresh; bytes = bytes }) told
+goes_next r e told new fresh bytes full s steps more = record {
+  goes_on = λ chapters so. goes_on_as r _ e told chapters so s.admitted s.events
+      (rw full (records_counted chapters r e new fresh bytes so s.admitted full s.journal steps more));
+  terms = ap (λ (x : HubView). x.terms) s.journal;
+  keep = refl;
+  early = rw full refl;
+}
 
-pub few_counted : (e : Entry) (l : ℕ) → l ≡ most_line e → l ≤ MOST_LINE_BYTES → counted e ≤ MOST_LINE_BYTES
+few_counted : (e : Entry) (l : ℕ) → l ≡ most_line e → l ≤ MOST_LINE_BYTES → counted e ≤ MOST_LINE_BYTES
 few_counted e l long few = by (is_exit e.step)
   where
     by : (b : Bool) → cond b 0 (most_line e) ≤ MOST_LINE_BYTES
@@ -267,20 +247,11 @@ few_counted e l long few = by (is_exit e.step)
     by false = omega (arith, long, few)
 
 -- what a recorder keeps, with such an entry more
-pub keeps_next : (r : Inside) (e : Entry) (hub : ShortInMemory) (told : List Event) (fresh bytes : ℕ) (edition : Edition) → RecorderKeeps r
+pub keeps_next : (r : Inside) (e : Entry) (hub : ShortInMemory) (told : List Event) (fresh bytes : ℕ) (edition : Edition) {most : ℕ} → RecorderKeeps r
     → begins (shown r) e.step ≡ false → Steps (hub_in r.present.hub) e (hub_in hub) told → fresh ≡ r.fresh + one_step e → bytes ≡ r.bytes + counted e
-    → Fits edition e → counted e ≤ MOST_LINE_BYTES
-    → RecorderKeeps (record {
-      alloc = r.alloc;
-      present = record { hub = hub; checkpoint = r.present.checkpoint };
-      before = r.before;
-      keep = r.keep;
-      fresh = fresh;
-      bytes = bytes;
-      early = r.early;
-      bases = r.bases;
-    })
-keeps_next r e hub told fresh bytes edition k room s steps more fits few =
+    → Fits edition e → most ≡ most_line e → most ≤ MOST_LINE_BYTES
+    → RecorderKeeps (record r { present = record r.present { hub = hub }; fresh = fresh; bytes = bytes })
+keeps_next r e hub told fresh bytes edition {most} k room s steps more fits is few =
     let terms = ap (λ (h : HubView). h.terms) s.journal in
     record {
       head = rw terms k.head;
@@ -291,7 +262,7 @@ keeps_next r e hub told fresh bytes edition k room s steps more fits few =
         records_counted k.recorder.0 (shown r) e (hub_in hub) fresh bytes k.recorder.1 s.admitted room s.journal steps more,
       );
       lines = rw (ap (λ (h : HubView). h.journal) s.journal, more) (counts_longer (hub_in r.present.hub).journal e edition r.bytes fits k.lines);
-      bytes = rw more (bytes_below (shown r) e (counted e) MOST_LINE_BYTES refl few k.bytes room);
+      bytes = rw more (bytes_below (shown r) e (counted e) MOST_LINE_BYTES refl (few_counted e most is few) k.bytes room);
       text_before = k.text_before;
     }
 
@@ -347,19 +318,13 @@ pub goes_cut : (r : RecorderView) (e : Entry) (new : HubView) (count : ℕ) (tol
     CutsAndSteps r.hub e new told → count ≡ steps_of (checkpoint (state_of r.hub)) →
     ((p : Port) → p.0 ≤ MOST_PORTS → slice_index bases p.0 ≡ in_64_bits (slice_index r.bases p.0 + received_count (state_of r.hub) p)) →
     RecordsStep r e (after_cut r new count 1 (most_line e) false bases) told
-goes_cut r e new count told bases full some s counted added =
-    let h : Head = head_of_all r in
-    record {
-      goes_on = λ chapters so. record {
-        admitted = sym (refused_alike h chapters r.hub.journal e.pid so.present) ∙ s.admitted;
-        events = s.events ∙ told_alike h chapters r.hub.journal e so.present;
-        history = history_next (begins r e.step) chapters e;
-        records = rw full (records_cut chapters r e new count told bases so full some s counted added);
-      };
-      terms = s.terms;
-      keep = refl;
-      early = rw full refl;
-    }
+goes_cut r e new count told bases full some s counted added = record {
+  goes_on = λ chapters so. goes_on_as r _ e told chapters so s.admitted s.events
+      (rw full (records_cut chapters r e new count told bases so full some s counted added));
+  terms = s.terms;
+  keep = refl;
+  early = rw full refl;
+}
 
 -- A cut that is asked for
 
@@ -413,6 +378,10 @@ handed_none r step there room = rw (out_none r step room) refl
 pub anyway : {E P : Type 0} (r : Result (Unit {0}) E) → P → OnOk r P
 anyway (Ok u) p = p
 anyway (Err e) p = tt
+
+-- whether a step begins a chapter of the recorder as it lies in memory
+pub begins_as : {inside seen : RecorderView} (step : Step) {b : Bool} → inside ≡ seen → begins seen step ≡ b → begins inside step ≡ b
+begins_as step same is = ap (λ (r : RecorderView). begins r step) same ∙ is
 
 -- Refusals
 

@@ -23,7 +23,7 @@ use Rattle.hub_chapters.proofs.Editions.{checkpoint-fits}
 use Rattle.hub_cut.specs.Cut.{CanMake, Makes, hub_with, with_entries}
 use Rattle.hub_cut.specs.Written.{port_entries, sent_entries}
 use Rattle.hub_base.proofs.StepCounts.{steps-append}
-use Rattle.hub_cut.proofs.Parts.{checkpoint_within}
+use Rattle.hub_cut.proofs.Parts.{checkpoint_parts, checkpoint_within}
 
 -- A list of entries that a hub takes, in two parts
 
@@ -91,13 +91,8 @@ one_admitted h e can = (begins-law h.terms.head h.journal []).next e can.legal
 
 -- no step is reserved where none was
 none_reserved : (s : Step) → places_after s 0 ≡ 0
-none_reserved (step.Make cap) = refl
-none_reserved (step.Call cases default word) = refl
-none_reserved (step.Close p) = refl
 none_reserved step.Exit = refl
-none_reserved (step.Cancel q) = refl
-none_reserved (step.Start q) = refl
-none_reserved (step.Reopen p cap) = refl
+none_reserved other = refl
 
 pub one_made : (h new : HubView) (e : Entry) (told : List Event) → CanMake h (e ∷ []) → Fits h.terms.head.edition e → Steps h e new told → Makes h (e ∷ []) new
 one_made h new e told can fits s =
@@ -172,6 +167,11 @@ can_checkpoint hub fits legal few = record {
   places = refl;
 }
 
+-- as one that is new
+pub can_anew : (hub base : HubView) → base ≡ opened_hub hub.terms → AreOf hub.terms.head.edition hub.journal → IsLegal hub.terms.head hub.journal
+    → steps_of hub.journal ≤ hub.terms.limit → CanMake base (checkpoint (state_of hub))
+can_anew hub base new fits legal few = rw new (can_checkpoint hub fits legal few)
+
 -- How many of its steps are no exits
 
 sends_all : (n : ℕ) (vs : List Value) → steps_of (map (send_again n) vs) ≡ length (map (send_again n) vs)
@@ -207,13 +207,4 @@ calls_all (c ∷ cs) = omega (arith, calls_all cs)
 pub checkpoint_count : (s : State) →
     steps_of (checkpoint s) ≡ length (ports_again 1 s.channels) + length (map call_again s.parked)
 checkpoint_count s =
-    let ports : List Entry = ports_again 1 s.channels in
-    let exits : List Entry = map exit (exited s) in
-    omega (
-      arith,
-      steps-append (ports ++ exits) (map call_again s.parked),
-      steps-append ports exits,
-      ports_all 1 s.channels,
-      exits_none (exited s),
-      calls_all s.parked,
-    )
+    omega (arith, checkpoint_parts steps_of steps-append s, ports_all 1 s.channels, exits_none (exited s), calls_all s.parked)

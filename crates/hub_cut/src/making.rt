@@ -1,9 +1,8 @@
 //! The steps of a checkpoint, each made in a hub as it is found: none of them is written out before.
 
 ghost use Rattle.std.specs.Prelude.{◌≡◌, ◌∷◌, [], false, IfOk, OnOk, map, slice_get, if◌then◌else◌};
-ghost use Rattle.hub_base.specs.declared.entry.Step.TheVariants.{Close};
 ghost use Rattle.hub_base.specs.Lines.{by, call};
-ghost use Rattle.hub_base.specs.Notation.{exit};
+ghost use Rattle.hub_base.specs.Notation.{close, exit};
 ghost use Rattle.hub_base.specs.Text.{steps_of};
 ghost use Rattle.hub_chapters.specs.Checkpoint.{call_again, checkpoint, exited, ports_again, send_again};
 ghost use Rattle.hub_core.specs.HubView.{IsLimit, opened_hub, state_of};
@@ -108,8 +107,8 @@ fn make_buffer(hub: &ShortHub, port: Port, len: u32, next: &mut ShortHub) -> Res
 /// Closes the port, where it is closed.
 #[tactic(auto, using(crate::proofs::Renewing::made_none))]
 fn make_close(port: Port, closed: bool, next: &mut ShortHub) -> Result<(), NoMemory>
-    requires can { CanMake next.old.memory.hub (if closed then by 0 (Close port) ∷ [] else []) }
-    ensures { OnOk result (Makes next.old.memory.hub (if closed then by 0 (Close port) ∷ [] else []) next.new.memory.hub) }
+    requires can { CanMake next.old.memory.hub (if closed then close 0 port.0 ∷ [] else []) }
+    ensures { OnOk result (Makes next.old.memory.hub (if closed then close 0 port.0 ∷ [] else []) next.new.memory.hub) }
 {
     if closed {
         make(
@@ -143,6 +142,7 @@ fn make_port(hub: &ShortHub, port: Port, next: &mut ShortHub) -> Result<(), NoMe
 }
 
 /// Makes the ports.
+#[tactic(auto, using(crate::proofs::Renewing::made_none))]
 fn make_ports(hub: &ShortHub, next: &mut ShortHub) -> Result<(), NoMemory>
     requires can { CanMake next.old.memory.hub (ports_again 1 (state_of hub.now.memory.hub).channels) }
     ensures { OnOk result (Makes next.old.memory.hub (ports_again 1 (state_of hub.now.memory.hub).channels) next.new.memory.hub) }
@@ -172,6 +172,7 @@ fn make_exit(number: u8, gone: bool, next: &mut ShortHub) -> Result<(), NoMemory
 }
 
 /// Makes an exit of each process that has gone.
+#[tactic(auto, using(crate::proofs::Renewing::made_none))]
 fn make_exits(hub: &ShortHub, next: &mut ShortHub) -> Result<(), NoMemory>
     requires can { CanMake next.old.memory.hub (map exit (exited (state_of hub.now.memory.hub))) }
     ensures { OnOk result (Makes next.old.memory.hub (map exit (exited (state_of hub.now.memory.hub))) next.new.memory.hub) }
@@ -196,6 +197,7 @@ fn make_call(hub: &ShortHub, place: usize, next: &mut ShortHub) -> Result<(), No
 }
 
 /// Makes the open calls, in order of arrival.
+#[tactic(auto, using(crate::proofs::Renewing::made_none))]
 fn make_calls(hub: &ShortHub, next: &mut ShortHub) -> Result<(), NoMemory>
     requires can { CanMake next.old.memory.hub (map call_again (state_of hub.now.memory.hub).parked) }
     ensures { OnOk result (Makes next.old.memory.hub (map call_again (state_of hub.now.memory.hub).parked) next.new.memory.hub) }

@@ -5,7 +5,7 @@
 use Rattle.std.specs.Prelude.{◌≡◌, ◌≤◌, ◌==◌, ◌&&◌, ℕ, Bool, true, false, not, List, [], ◌∷◌, ◌++◌, length, filter, if◌then◌else◌}
 use Rattle.std.specs.List.{AllByRecursion}
 use Rattle.hub_base.specs.Entry.{Entry, Step}
-use Rattle.hub_base.specs.declared.entry.Step.TheVariants.{Make, Call, Close, Exit, Cancel, Start, Reopen}
+use Rattle.hub_base.specs.declared.entry.Step.TheVariants.{Call}
 use Rattle.hub_base.specs.declared.head.Head.{Head}
 use Rattle.hub_base.specs.declared.fault.Fault.TheVariants as fault
 use Rattle.hub_base.specs.declared.event.Event.{Event}
@@ -16,13 +16,8 @@ use Rattle.hub_base.specs.Values.{Turned, turns_after}
 use Rattle.hub_laws.specs.Faults.{refuses_entry, is_busy}
 
 abbrev pub is_call : Step → Bool
-is_call (Make cap) = false
 is_call (Call cases default word) = true
-is_call (Close p) = false
-is_call Exit = false
-is_call (Cancel q) = false
-is_call (Start q) = false
-is_call (Reopen p cap) = false
+is_call other = false
 
 abbrev pub is_refusal : What → Bool
 is_refusal (what.Fault f) = refuses_entry f

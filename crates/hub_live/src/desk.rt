@@ -187,12 +187,7 @@ impl<K: HubName> Desk<K> {
         ensures fits { AreOf K.name.terms.head.edition self.hub.journal }
         ensures few { steps_of self.hub.journal ≤ K.name.terms.limit }
     {
-        let Desk {
-            locked,
-            token: _,
-            of: _,
-        } = self;
-        locked.into_journal()
+        self.locked.into_journal()
     }
 
     /// The journal, kept short. An `Err` is memory. Answers that wait are dropped.
@@ -202,11 +197,6 @@ impl<K: HubName> Desk<K> {
         ensures fits { AreOf K.name.terms.head.edition self.hub.journal }
         ensures few { steps_of self.hub.journal ≤ K.name.terms.limit }
     {
-        let Desk {
-            locked,
-            token: _,
-            of: _,
-        } = self;
-        locked.into_short_journal(alloc)
+        self.locked.into_short_journal(alloc)
     }
 }

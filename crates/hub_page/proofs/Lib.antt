@@ -4,3 +4,5 @@ mod Rests
 mod Sums
 mod Waiting
 pub mod Written
+mod EntryWords
+mod DataRead

@@ -1,28 +1,9 @@
 -- Texts that are written one after the other.
-use Rattle.std.proofs.Common.{Err, List, Ok, OnErr, Option, Result, [], add-one, ap, append-nil, append_assoc, drop, get_or, length, refl}
-use Rattle.std.proofs.Common.{subst, sym, ℕ, ◌++◌, ◌+◌, ◌<◌, ◌∙◌, ◌≡◌, ◌≤◌}
-use Rattle.std.proofs.lemmas.List.{drop_all}
-use Rattle.std.proofs.Math.Seq.{drop-cons}
+use Rattle.std.proofs.Common.{Err, List, Ok, OnErr, Option, Result, [], ap, append-nil, append_assoc, refl}
+use Rattle.std.proofs.Common.{subst, sym, ℕ, ◌++◌, ◌∙◌, ◌≡◌}
 use Rattle.std.specs.Io.KnownBytes.{Appends}
 use Rattle.std.proofs.KnownBytes.{Appends-nil, Appends-trans}
 use Rattle.hub_replay.specs.Devices.{AppendsBeginning}
-use Rattle.hub_story_text.specs.Packed.{joined}
-
--- ---- the blocks of a packed text
-pub from-there : (blocks : List (List ℕ)) (i : ℕ) (d : List ℕ) → i < length blocks → joined (drop i blocks) ≡ get_or blocks i d ++ joined (drop (i + 1) blocks)
-from-there blocks i d below = ap joined (drop-cons blocks i d below) ∙ ap (λ k. get_or blocks i d ++ joined (drop k blocks)) (sym (add-one i))
-
--- one block more was written
-pub block-written : (blocks : List (List ℕ)) (i : ℕ) (d block written : List ℕ) → block ≡ get_or blocks i d → i < length blocks →
-    joined blocks ≡ written ++ joined (drop i blocks) → joined blocks ≡ (written ++ block) ++ joined (drop (i + 1) blocks)
-block-written blocks i d block written is below split =
-    split ∙ ap (λ l. written ++ l) (from-there blocks i d below ∙ ap (λ l. l ++ joined (drop (i + 1) blocks)) (sym is))
-    ∙ sym (append_assoc written block (joined (drop (i + 1) blocks)))
-
--- all blocks were written
-pub all-written : (blocks : List (List ℕ)) (i : ℕ) (written : List ℕ) → length blocks ≤ i → joined blocks ≡ written ++ joined (drop i blocks)
-    → joined blocks ≡ written
-all-written blocks i written past split = split ∙ ap (λ l. written ++ joined l) (drop_all i blocks past) ∙ append-nil written
 
 -- ---- what was written
 -- one text more was written
@@ -78,7 +59,3 @@ module _ (first second third : List ℕ) where
 pub on-err : {A E P : Type 0} (r : Result A E) → P → OnErr r P
 on-err (Ok x) p = tt
 on-err (Err e) p = p
-
-pub if-err : {A E P Q : Type 0} (r : Result A E) → (P → Q) → OnErr r P → OnErr r Q
-if-err (Ok x) f p = tt
-if-err (Err e) f p = f p

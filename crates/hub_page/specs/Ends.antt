@@ -14,7 +14,7 @@ use Rattle.hub_parts.specs.declared.side.Side.TheVariants.{Send, Recv}
 use Rattle.hub_story.specs.declared.moves.Move.{Move}
 use Rattle.hub_story.specs.declared.told.Told.{Told}
 use Rattle.hub_story.specs.Moves.{move_of}
-use Rattle.hub_story_text.specs.Partners.{partner_of}
+use Rattle.hub_story.specs.Partners.{partner_of}
 use Rattle.hub_story.specs.Levels.{level_after}
 
 abbrev pub outcome_letter : Outcome → List ℕ

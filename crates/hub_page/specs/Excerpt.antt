@@ -13,7 +13,7 @@ use Rattle.hub_story.specs.Levels.{told_by}
 use Rattle.hub_base.specs.Values.{cases_at}
 use Rattle.hub_story.specs.Waiting.{is_stalled}
 use Rattle.hub_story.specs.Windows.{has, touches}
-use Rattle.hub_story_text.specs.Partners.{partner_of}
+use Rattle.hub_story.specs.Partners.{partner_of}
 use Rattle.hub_page.specs.Lanes.{lane_of, waiting_call}
 
 -- it asks for what lasts: a port, or its second life; that its process exits, or that another starts again

@@ -4,7 +4,7 @@ use Rattle.hub_base.specs.Entry.{Entry}
 use Rattle.hub_story.specs.declared.told.Told.{Told}
 use Rattle.hub_story.specs.Levels.{told_by}
 use Rattle.hub_story.specs.Stories.{IsStoryOf}
-use Rattle.hub_story_text.specs.Partners.{AreIn, ways}
+use Rattle.hub_story.specs.Partners.{AreIn, ways}
 use Rattle.hub_page.specs.declared.known.Known.{Known}
 use Rattle.hub_page.specs.ParkedCalls.{AreParked}
 

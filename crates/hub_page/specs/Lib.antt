@@ -11,6 +11,7 @@ pub mod Past
 pub mod Block
 pub mod Sketch
 pub mod Data
+pub mod ReadBack
 pub mod KnownPage
 pub mod Viewer
 pub mod Page

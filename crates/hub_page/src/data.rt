@@ -6,7 +6,8 @@ ghost use Rattle.hub_base.specs.Head.{IsHead};
 ghost use Rattle.hub_base.specs.Reading.{head_lines};
 ghost use Rattle.hub_replay.specs.Devices.{AppendsBeginning};
 ghost use Rattle.hub_story.specs.Clock.{clock_of};
-ghost use Rattle.hub_page.specs.Data.{block_begin, block_count, clock_words, whole_blocks, window_line};
+ghost use Rattle.hub_story.specs.Stories.{IsStoryOf};
+ghost use Rattle.hub_page.specs.Data.{block_begin, block_count, clock_words, data_text, whole_blocks, window_line};
 ghost use Rattle.hub_replay.specs.ViewFaults.{Fails};
 ghost use Rattle.hub_page.specs.Known.{IsKnown, entries_of, told_of};
 ghost use Rattle.hub_page.specs.KnownPage.{all_blocks, block_of, data_of};
@@ -16,13 +17,14 @@ use crate::block::Block;
 use crate::known::Known;
 use crate::limits::BLOCK;
 use crate::number::put_number;
+use crate::parked_calls::ParkedCalls;
 use crate::past::Past;
 use crate::sketch::{Sketch, put_sketch};
 use crate::step_lines::put_lines;
 use hub_base::{NoMemory, Pid};
+use hub_core::ShortJournal;
 use hub_replay::{Sink, ViewFault, write_whole};
-use hub_story::{Told, Window};
-use hub_story_text::clock_in;
+use hub_story::{Story, Told, Window, all_partners, clock_in};
 use hub_text::write_head;
 use std::alloc::{AllocError, Global};
 
@@ -44,7 +46,7 @@ fn block_begin(count: usize, number: usize) -> usize
 }
 
 /// The blocks of so many steps of which the window has some, whole.
-pub(crate) fn whole_blocks(count: usize, window: Window) -> Window
+fn whole_blocks(count: usize, window: Window) -> Window
     requires { count < 2 ^ 32 - 1 }
     ensures { result ≡ whole_blocks count window }
 {
@@ -144,8 +146,8 @@ fn first_lines(alloc: Global, known: &Known<'_>, window: Window) -> Result<Vec<u
     Ok(lines)
 }
 
-/// Writes the data of a page.
-pub(crate) fn write_data<W: Sink>(
+/// Writes the data of a page of which so much is known.
+fn write_known<W: Sink>(
     output: &mut W,
     alloc: Global,
     past: &mut Past,
@@ -168,4 +170,37 @@ pub(crate) fn write_data<W: Sink>(
     write_whole(output, &lines)?;
     write_blocks(output, alloc, past, known)?;
     Ok(())
+}
+
+/// Writes the data of a page: of blocks of all steps what they have in common, and what each step of the window asks and what is told
+/// by it, with the other steps without which these could not be understood.
+pub(crate) fn write_data<W: Sink>(
+    output: &mut W,
+    alloc: Global,
+    journal: &ShortJournal,
+    story: &Story,
+    window: Window,
+) -> Result<(), ViewFault>
+    requires story { IsStoryOf journal.now story.now }
+    requires head { IsHead journal.now.head }
+    requires few { length journal.now.entries < 2 ^ 32 - 1 }
+    ensures whole { OnOk result (Appends (W.contents output.old) (W.contents output.new)
+        (data_text window journal.now.head journal.now.entries story.now.told.items)) }
+    ensures beginning { OnErr result (AppendsBeginning (W.contents output.old) (W.contents output.new)
+        (data_text window journal.now.head journal.now.entries story.now.told.items)) }
+    ensures err { IfErr result (Fails (W.failures output.old) (W.failures output.new)) }
+    ensures ok { OnOk result (W.failures output.new ≡ W.failures output.old) }
+{
+    let partners = all_partners(alloc, journal, story)?;
+    let told = whole_blocks(journal.entries().len(), window);
+    let waiting = ParkedCalls::before(alloc, journal.head().procs, &story.told, told.first)?;
+    let known = Known {
+        journal,
+        story,
+        partners: &partners,
+        window: told,
+        waiting: &waiting,
+    };
+    let mut past = Past::new(alloc, &known)?;
+    write_known(output, alloc, &mut past, &known, window)
 }

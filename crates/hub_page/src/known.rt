@@ -2,7 +2,7 @@
 
 ghost use Rattle.std.specs.Prelude.{◌≡◌, ◌<◌, length};
 ghost use Rattle.hub_page.specs.Known.{IsKnown, entries_of, told_of};
-ghost use Rattle.hub_story_text.specs.Partners.{partner_of};
+ghost use Rattle.hub_story.specs.Partners.{partner_of};
 
 use crate::parked_calls::ParkedCalls;
 use hub_core::ShortJournal;

@@ -8,6 +8,7 @@ mod entries;
 mod excerpt;
 mod known;
 mod lanes;
+mod laws;
 mod limits;
 mod number;
 mod page;
@@ -18,7 +19,6 @@ mod sketch;
 mod stalls;
 mod step_lines;
 mod viewer;
-mod writing;
 
+pub use laws::page_is_read_back;
 pub use page::write_page;
-pub use writing::{room, write_text};

@@ -53,10 +53,6 @@ one-arrow w p m ms = by (crosses w m)
     by false = refl
 
 -- no send is left, and no receive
-pub no-send-left : (w : Window) (p : Port) (arrows text : List Arrow) (xs ys : List Moved) → xs ≡ [] →
-    arrows ++ arrows_on w p (beside xs ys) ≡ text → arrows ≡ text
-no-send-left w p arrows text xs ys none so = sym (ap (λ l. arrows ++ arrows_on w p (beside l ys)) none ∙ append-nil arrows) ∙ so
-
 pub no-receive-left : (w : Window) (p : Port) (arrows text : List Arrow) (xs ys : List Moved) → ys ≡ [] →
     arrows ++ arrows_on w p (beside xs ys) ≡ text → arrows ≡ text
 no-receive-left w p arrows text xs ys none so =

@@ -1,13 +1,11 @@
-mod Appended
 mod ArrowsLeft
 mod Askings
-pub mod Plain
-mod Halves
+mod Plain
 mod OtherPorts
 mod Places
 mod Ports
+mod Reading
 mod Rows
-pub mod Titles
-mod Signs
 mod Kept
 mod Lives
+mod Writing

@@ -16,14 +16,22 @@ use Rattle.hub_base.specs.declared.head.Edition.{Edition}
 use Rattle.hub_base.specs.Content.{Content, IsContent}
 use Rattle.hub_base.specs.Value.{IsValue, content, field_of, value_field}
 use Rattle.hub_base.specs.Content.Content.{Num, Bytes}
+use Rattle.hub_base.specs.declared.event.Event.{Event}
+use Rattle.hub_base.specs.declared.event.Outcome.{Outcome}
+use Rattle.hub_base.specs.declared.event.Outcome.TheVariants.{Sent, Got, Drained, Closed}
+use Rattle.hub_base.specs.declared.event.What.{What}
+use Rattle.hub_base.specs.declared.event.What.TheVariants as what
+use Rattle.hub_base.specs.declared.fault.Fault.{Fault}
+use Rattle.hub_base.specs.EventText.{EventFits, OutcomeFits, WhatFits, event_line, outcome_text, what_text}
+use Rattle.hub_base.specs.Faults.{fault_number}
 use Rattle.hub_base.specs.Lines.{is_hex, case_field, default_field, select_fields, call_fields, step_fields, line}
 use Rattle.hub_base.specs.Text.{CaseFits, CallFits, StepFits, Fits}
 use Rattle.hub_base.proofs.Decimals.{digits-of}
 use Rattle.hub_base.proofs.HexDigits.{encoded-hex}
-use Rattle.hub_picture.specs.Pieces.{joined}
-use Rattle.hub_picture.specs.Plain.{is_plain, IsPlain}
+use Rattle.hub_picture.specs.Reading.{IsPlain}
+use Rattle.hub_picture.specs.Xml.{is_plain}
 
-pub plain-both : (xs ys : List ℕ) → IsPlain xs → IsPlain ys → IsPlain (xs ++ ys)
+plain-both : (xs ys : List ℕ) → IsPlain xs → IsPlain ys → IsPlain (xs ++ ys)
 plain-both xs ys hx hy = list_all-append is_plain xs ys ∙ rw (hx, hy) refl
 
 both : (a b : Bool) → (a && b) ≡ true → (a ≡ true) × (b ≡ true)
@@ -50,14 +58,10 @@ content-plain : (c : Content) → IsContent c → IsPlain (field_of c)
 content-plain (Num n) fits = plain-number n (omega (arith, fits))
 content-plain (Bytes bs) fits = each-plain is_hex (encode_lower bs) hex-plain (encoded-hex bs fits.1)
 
-pub plain-value : (v : Value) → IsValue v → IsPlain (value_field v)
+plain-value : (v : Value) → IsValue v → IsPlain (value_field v)
 plain-value v is = content-plain (content v) is.fits
 
--- ---- several texts, one after the other, and with spaces between them
-pub plain-joined : (texts : List (List ℕ)) → AllByRecursion IsPlain texts → IsPlain (joined texts)
-plain-joined [] all = refl
-plain-joined (t ∷ ts) all = plain-both t (joined ts) all.0 (plain-joined ts all.1)
-
+-- ---- several texts with spaces between them
 plain-spaced : (f : List ℕ) (fs : List (List ℕ)) → IsPlain f → AllByRecursion IsPlain fs → IsPlain (join_with_byte 32 (f ∷ fs))
 plain-spaced f [] h all = h
 plain-spaced f (g ∷ gs) h all = plain-both f (32 ∷ join_with_byte 32 (g ∷ gs)) h (plain-spaced g gs all.0 all.1)
@@ -106,3 +110,33 @@ pub plain-line : (edition : Edition) (e : Entry) → Fits edition e → IsPlain 
 plain-line edition e fits =
     plain-both (join_with_byte 32 (decimal e.pid.0 ∷ step_fields e.step)) (codes "\n")
     (plain-spaced (decimal e.pid.0) (step_fields e.step) (small e.pid.0 GREATEST_PID fits.pid (omega arith)) (step-plain e.step fits.step)) refl
+
+-- ---- events
+fault-small : (f : Fault) → fault_number f ≤ 255
+fault-small f = grind arith
+
+-- a word, and a number up to so much
+worded : (word : List ℕ) (n most : ℕ) → IsPlain word → n ≤ most → most < 2 ^ 64 → IsPlain (word ++ decimal n)
+worded word n most plain fits below = plain-both word (decimal n) plain (plain-number n (omega (arith, fits, below)))
+
+outcome-plain : (o : Outcome) → OutcomeFits o → IsPlain (outcome_text o)
+outcome-plain Sent fits = refl
+outcome-plain (Got v) fits = plain-both (codes " got ") (value_field v) refl (plain-value v fits)
+outcome-plain Drained fits = refl
+outcome-plain Closed fits = refl
+
+what-plain : (w : What) → WhatFits w → IsPlain (what_text w)
+what-plain (what.Made p) fits = worded (codes " made ") p.0 GREATEST_PORT refl fits (omega arith)
+what-plain (what.Fired i o) fits =
+    plain-both (codes " case " ++ decimal i) (outcome_text o) (worded (codes " case ") i 255 refl fits.0 (omega arith)) (outcome-plain o fits.1)
+what-plain what.Default fits = refl
+what-plain what.Done fits = refl
+what-plain what.Parked fits = refl
+what-plain what.Stalled fits = refl
+what-plain (what.Fault f) fits = worded (codes " fault ") (fault_number f) 255 refl (fault-small f) (omega arith)
+what-plain what.Cancelled fits = refl
+
+pub plain-event : (e : Event) → EventFits e → IsPlain (event_line e)
+plain-event e fits =
+    plain-both (decimal e.pid.0 ++ what_text e.what) (codes "\n")
+    (plain-both (decimal e.pid.0) (what_text e.what) (plain-number e.pid.0 (omega (arith, fits.pid))) (what-plain e.what fits.what)) refl

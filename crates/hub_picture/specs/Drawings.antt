@@ -1,6 +1,7 @@
 -- What is drawn of a journal, in processes and steps. Colours, lengths and texts are no part of it.
 use Rattle.std.specs.Prelude.{◌≡◌, ℕ, zero, suc, ◌+◌, min, Bool, true, false, ◌&&◌, List, [], ◌∷◌, ◌++◌, filter, map, length}
 use Rattle.std.specs.Prelude.{Option, None, Some}
+use Rattle.hub_base.specs.declared.value.Pid.{Pid}
 use Rattle.hub_base.specs.declared.value.Port.{Port}
 use Rattle.hub_base.specs.Entry.{Entry}
 use Rattle.hub_base.specs.declared.limits.TheConstants.{MOST_PORTS}
@@ -11,6 +12,10 @@ use Rattle.hub_story.specs.declared.told.Told.{Told}
 use Rattle.hub_story.specs.declared.moved.Passage.{Passage}
 use Rattle.hub_story.specs.declared.story.Story.{Story}
 use Rattle.hub_story.specs.Ends.{ended_at}
+use Rattle.hub_story.specs.declared.by_clock.Part.{Part}
+use Rattle.hub_story.specs.declared.by_clock.Part.TheVariants.{NoPart}
+use Rattle.hub_story.specs.ByClock.{other_outsiders, part_of, to_others}
+use Rattle.hub_story.specs.Clock.{clock_of}
 use Rattle.hub_story.specs.declared.outside.Outsider.{Outsider}
 use Rattle.hub_story.specs.Outside.{outside}
 use Rattle.hub_story.specs.Passing.{passages}
@@ -27,11 +32,20 @@ use Rattle.hub_picture.specs.declared.drawing.Drawing.{Drawing}
 use Rattle.hub_story.specs.Windows.{goes_on, has, touches, within}
 
 -- ---- what was asked
--- these entries, the first of which stands at this place, and how each ended
-abbrev pub asked : Story → ℕ → List Entry → List Asked
-asked s place [] = []
-asked s place (e ∷ es) =
-    record { place = place; entry = e; ended = ended_at s place } ∷ asked s (place + 1) es
+-- what the clock has to do with how an entry ended
+abbrev pub part_in : Option Pid → List Entry → Option Told → Part
+part_in clock es None = NoPart
+part_in clock es (Some end) = part_of clock es end
+
+-- an entry at this place, and how it ended
+abbrev pub asked_at : Option Pid → List Entry → Story → ℕ → Entry → Asked
+asked_at clock es s place e =
+    record { place = place; entry = e; ended = ended_at s place; part = part_in clock es (ended_at s place) }
+
+-- these, the first of which stands at this place
+abbrev pub asked : Option Pid → List Entry → Story → ℕ → List Entry → List Asked
+asked clock all s place [] = []
+asked clock all s place (e ∷ es) = asked_at clock all s place e ∷ asked clock all s (place + 1) es
 
 -- by which step it ended
 abbrev pub ended_by : Option Told → Option ℕ
@@ -87,32 +101,34 @@ abbrev pub stalls_in : Window → Told → Bool
 stalls_in w t = is_stalled t.event.what && has w t.by
 
 -- ---- who is outside
--- those who are, where these calls wait
-abbrev pub outside_beside : ℕ → List Entry → List Told → List Told → List Outsider
-outside_beside procs es all [] = []
-outside_beside procs es all (t ∷ ts) = outside es all (t ∷ ts) procs
+-- these, where any of those calls wait
+abbrev pub outside_beside : List Outsider → List Told → List Outsider
+outside_beside os [] = []
+outside_beside os (t ∷ ts) = os
 
--- where the window goes to the end
-abbrev pub outside_in : Window → ℕ → List Entry → List Told → List Told → List Outsider
-outside_in w procs es all waiting = outside_beside procs es all (open_in w (length es) waiting)
+-- those who are, but for the clock, where the window goes to the end and calls of others wait there
+abbrev pub outside_in : Window → Option Pid → ℕ → List Entry → List Told → List Told → List Outsider
+outside_in w clock procs es all waiting =
+    outside_beside (other_outsiders clock (outside es all waiting procs)) (open_in w (length es) (to_others clock waiting))
 
 -- ---- the whole
 -- the lanes are the lives of processes, the strips the ports that hold a value in the window; the boxes are the entries of the window, the bars the
 -- calls that waited, the arrows the passages of all ports, and the levels what ports held, as far as they touch it; the
--- stalls who was stalled by its steps, the waiters who waits in vain, and for what, and then who is outside: each once, in order, and
--- nothing else
+-- stalls who was stalled by its steps, the waiters who waits in vain, and for what, and then who is outside, each but for the clock: each
+-- once, in order, and nothing else
 pub record IsDrawnIn (w : Window) (given : JournalView) (s : Story) (d : Drawing) : Type 0 where
   pub procs : d.procs ≡ given.head.procs
   pub window : d.window ≡ w
+  pub clock : d.clock ≡ clock_of given.head given.entries
   pub lanes : d.lanes.items ≡ lanes_of given.head.procs given.entries s.told.items
   pub strips : d.strips.items ≡ shown_strips w given.entries s.told.items
-  pub boxes : d.boxes.items ≡ filter (is_shown Boxes w) (asked s 0 given.entries)
-  pub bars : d.bars.items ≡ filter (is_shown Bars w) (asked s 0 given.entries)
+  pub boxes : d.boxes.items ≡ filter (is_shown Boxes w) (asked d.clock given.entries s 0 given.entries)
+  pub bars : d.bars.items ≡ filter (is_shown Bars w) (asked d.clock given.entries s 0 given.entries)
   pub arrows : d.arrows.items ≡ all_arrows w given.entries s.told.items
   pub levels : d.levels.items ≡ all_levels w given.entries s.told.items
-  pub stalls : d.stalls.items ≡ filter (stalls_in w) s.told.items
-  pub waiters : d.waiters.items ≡ all_waiters w given.entries s.told.items (filter (stalls_in w) s.told.items) s.waiting.items
-  pub outside : d.outside.items ≡ outside_in w given.head.procs given.entries s.told.items s.waiting.items
+  pub stalls : d.stalls.items ≡ to_others d.clock (filter (stalls_in w) s.told.items)
+  pub waiters : d.waiters.items ≡ all_waiters w given.entries s.told.items d.stalls.items (to_others d.clock s.waiting.items)
+  pub outside : d.outside.items ≡ outside_in w d.clock given.head.procs given.entries s.told.items s.waiting.items
 
 -- the same, of the steps of the window that the journal has
 abbrev pub IsDrawingOf : JournalView → Story → Window → Drawing → Type 0

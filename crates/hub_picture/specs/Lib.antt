@@ -4,11 +4,10 @@ pub mod Moves
 pub mod Waiters
 pub mod Drawings
 pub mod Shapes
-pub mod Labels
-pub mod Pieces
 pub mod Frames
-pub mod Svg
-pub mod Plain
+pub mod Xml
+pub mod Reading
+pub mod XmlRows
 pub mod PictureRows
 pub mod Ends
 pub mod Standing

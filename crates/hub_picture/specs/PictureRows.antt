@@ -1,24 +1,14 @@
--- Worked rows of drawings and of their text, worked out by hand.
-use Rattle.std.specs.Prelude.{◌≡◌, ℕ, true, false, List, [], ◌∷◌, codes, filter, map, None, Some, refl}
-use Rattle.std.specs.Option.{option_map}
-use Rattle.std.specs.Fmt.{digits}
+-- Worked rows of drawings, worked out by hand.
+use Rattle.std.specs.Prelude.{◌≡◌, ℕ, true, false, List, [], ◌∷◌, filter, map, None, refl}
 use Rattle.hub_base.specs.Entry.{Entry}
-use Rattle.hub_base.specs.Notation.{procs, port, make, send, recv, exit}
+use Rattle.hub_base.specs.Notation.{procs, make, send, recv, exit}
 use Rattle.hub_story.specs.declared.told.Told.{Told}
 use Rattle.hub_story.specs.Told.{told, end_of}
 use Rattle.hub_story.specs.declared.window.Window.{Window}
 use Rattle.hub_picture.specs.declared.arrows.Arrow.{Arrow}
 use Rattle.hub_picture.specs.declared.asked.Shown.TheVariants.{Bars}
-use Rattle.hub_picture.specs.declared.frame.Frame.{Frame}
-use Rattle.hub_picture.specs.declared.frame.Scale.TheVariants.{Wide, Dense}
-use Rattle.hub_picture.specs.declared.label.Label.TheVariants.{Send}
 use Rattle.hub_story.specs.Windows.{within}
 use Rattle.hub_picture.specs.Drawings.{ended_by, shows, all_arrows, stalls_in}
-use Rattle.hub_picture.specs.Frames.{x_of, y_of}
-use Rattle.hub_picture.specs.Labels.{label_text, class_text}
-use Rattle.hub_picture.specs.Svg.Arrows.{side_of, arrow_body}
-use Rattle.hub_picture.specs.Svg.Lanes.{tick_in}
-use Rattle.hub_picture.specs.Svg.Stalls.{stall_title}
 
 abbrev steps : ℕ → ℕ → Window
 steps first end = record { first = first; end = end }
@@ -62,50 +52,3 @@ stalled_row = refl
 
 pub not_stalled_row : filter (stalls_in (steps 0 3)) everyone_stalls ≡ []
 not_stalled_row = refl
-
--- ---- the second band of a picture of two processes: steps 14 to 27
-abbrev second : Frame
-second = record { scale = Wide; band = 1; procs = 2; ports = 0; steps = steps 14 28 }
-
--- half a column is 40; before the band is its left edge, and behind it its right one
-pub columns_row : map (x_of second) (3 ∷ 14 ∷ 15 ∷ 27 ∷ 99 ∷ []) ≡ 60 ∷ 100 ∷ 180 ∷ 1140 ∷ 1180 ∷ []
-columns_row = refl
-
--- four rows of 58 stand above the band's first lane, and its own; a number that no process has stands below the lanes
-pub lanes_row : map (y_of second) (0 ∷ 1 ∷ 2 ∷ 200 ∷ []) ≡ 380 ∷ 438 ∷ 496 ∷ 496 ∷ []
-lanes_row = refl
-
--- a box is 36 high: it is left below towards a later process, above towards an earlier one, and on the lane towards none
-pub sides_row : map (side_of second 1) (2 ∷ 0 ∷ 1 ∷ []) ≡ 456 ∷ 420 ∷ 438 ∷ []
-sides_row = refl
-
--- in the first band lane 0 is at 148 and lane 1 at 206, and the columns of places 1, 3 and 4 at 180, 340 and 420
-abbrev first_band : Frame
-first_band = record { scale = Wide; band = 0; procs = 2; ports = 0; steps = steps 0 5 }
-
-abbrev bodies : List Arrow → List (List ℕ)
-bodies arrows = map (λ a. arrow_body first_band a.passage.sent.told a.passage.received.told) arrows
-
-pub bodies_row : bodies (all_arrows (steps 0 5) through_a_buffer all_told)
-    ≡ codes "</title><path d=\"M180 166L340 188\"/></g>\n" ∷ codes "</title><path d=\"M340 166L420 188\"/></g>\n" ∷ []
-unfolding digits
-bodies_row = refl
-
-pub tick_row : tick_in second 14 ≡ codes "<text class=\"tick\" x=\"100\" y=\"344\">15</text>\n"
-unfolding digits
-tick_row = refl
-
-pub no_tick_row : tick_in (record { scale = Dense; band = 0; procs = 2; ports = 0; steps = steps 0 60 }) 2 ≡ []
-no_tick_row = refl
-
-pub label_row : label_text (Send (port 12)) ≡ codes "s12"
-unfolding digits
-label_row = refl
-
-pub class_row : class_text (Send (port 12)) ≡ codes "send h4"
-unfolding digits
-class_row = refl
-
-pub stall_row : option_map stall_title (end_of everyone_stalls 1) ≡ Some (codes "step 4 stalls process 1, which has waited since step 2\n")
-unfolding digits
-stall_row = refl

@@ -4,7 +4,6 @@
 use Rattle.std.specs.Prelude.{ℕ, zero, ◌+◌, ◌==◌, Bool, nat_le, List, [], ◌∷◌, ◌++◌, filter, map, length}
 use Rattle.std.specs.Prelude.{if◌then◌else◌}
 use Rattle.std.specs.List.{flat_map}
-use Rattle.hub_base.specs.declared.value.Port.{Port}
 use Rattle.hub_base.specs.declared.case.Case.{Case}
 use Rattle.hub_base.specs.Entry.{Entry}
 use Rattle.hub_story.specs.declared.last_moves.AtPort.{AtPort}

@@ -1,13 +1,13 @@
 //! What was asked, and how it ended: the boxes and the bars of a drawing.
 
 ghost use Rattle.std.specs.Prelude.{◌≡◌, ◌<◌, ◌-◌, ◌^◌, IfOk, filter, length};
-ghost use Rattle.hub_picture.specs.Drawings.{asked, ended_by, is_shown, shows};
+ghost use Rattle.hub_picture.specs.Drawings.{asked, ended_by, is_shown, part_in, shows};
 ghost use Rattle.hub_story.specs.Ends.{ended_at};
 
 use crate::Window;
-use hub_base::Entry;
+use hub_base::{Entry, Pid};
 use hub_core::{CaseRoom, ShortEntries};
-use hub_story::{Story, Told};
+use hub_story::{Part, Story, Told, part_of};
 use std::alloc::{AllocError, Global};
 
 /// An entry, and how it ended.
@@ -19,6 +19,8 @@ pub struct Asked {
     pub entry: Entry,
     /// What it was told at last, and by whose step. `None` while it waits.
     pub ended: Option<Told>,
+    /// What the clock has to do with that.
+    pub part: Part,
 }
 
 /// What a list of entries is for.
@@ -75,27 +77,40 @@ fn shows_at(shown: Shown, window: Window, story: &Story, place: u32) -> bool
     shows(shown, window, place, until)
 }
 
+/// What the clock has to do with how an entry ended.
+fn part_in(clock: Option<Pid>, entries: &ShortEntries, ended: Option<Told>) -> Part
+    ensures { result ≡ part_in clock entries.now ended }
+{
+    match ended {
+        Some(end) => part_of(clock, entries, &end),
+        None => Part::NoPart,
+    }
+}
+
 /// The entries that are shown, in order. None behind the window is.
 pub(crate) fn asked_in(
     alloc: Global,
     shown: Shown,
     window: Window,
+    clock: Option<Pid>,
     entries: &ShortEntries,
     story: &Story,
 ) -> Result<Vec<Asked>, AllocError>
     requires few { length entries.now < 2 ^ 32 - 1 }
     ensures { IfOk result (λ all.
-        all.items ≡ filter (is_shown shown window) (asked story.now 0 entries.now)) }
+        all.items ≡ filter (is_shown shown window) (asked clock entries.now story.now 0 entries.now)) }
 {
     let mut all = Vec::new(alloc);
     let mut room = CaseRoom::new();
     for number in 0..entries.len().min(window.end as usize) {
         let place = number as u32;
         if shows_at(shown, window, story, place) {
+            let ended = story.end(number);
             all.push(Asked {
                 place,
                 entry: entries.entry(number, &mut room).to_owned(),
-                ended: story.end(number),
+                ended,
+                part: part_in(clock, entries, ended),
             })?;
         }
     }

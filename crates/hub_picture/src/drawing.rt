@@ -5,9 +5,9 @@ ghost use Rattle.hub_picture.specs.Drawings.{IsDrawingOf};
 
 use crate::shapes::put_shapes;
 use crate::{Arrow, Asked, Held, Lane, Strip, Waiter, Window};
-use hub_base::NoMemory;
+use hub_base::{NoMemory, Pid};
 use hub_core::ShortJournal;
-use hub_story::{Outsider, Story, Told};
+use hub_story::{Outsider, Story, Told, clock_in};
 use std::alloc::Global;
 
 /// The shapes of a picture, in processes and steps.
@@ -15,6 +15,8 @@ use std::alloc::Global;
 pub struct Drawing {
     /// How many processes the journal has: each has a lane.
     pub procs: u8,
+    /// The process that is the clock, if one is. No field and no row is of it.
+    pub clock: Option<Pid>,
     /// The steps that are shown.
     pub window: Window,
     /// The processes: a lane each, until it exits, and one more each time that it is started again.
@@ -51,6 +53,7 @@ pub fn drawing_of(
     let shown = window.within(journal.entries().len() as u32);
     let mut drawing = Drawing {
         procs: journal.head().procs,
+        clock: clock_in(journal),
         window: shown,
         lanes: Vec::new(alloc),
         strips: Vec::new(alloc),

@@ -1,8 +1,7 @@
 //! Where steps and processes stand on a page.
 
-ghost use Rattle.std.specs.Prelude.{◌≡◌, ◌≤◌, ◌+◌, ◌*◌, max, min};
-ghost use Rattle.hub_picture.specs.Frames.{AreBounded, by_scale, floor_of, frame_of, height_of, ports_of, sizes_of, steps_between, top_of};
-ghost use Rattle.hub_picture.specs.Frames.{has_begun, since, until, x_of, y_of};
+ghost use Rattle.std.specs.Prelude.{◌≤◌, max, min};
+ghost use Rattle.hub_picture.specs.Frames.{AreBounded};
 
 use crate::{Drawing, Window};
 use hub_base::{CASE_PLACES, MOST_PORTS, MOST_PROCS};
@@ -29,9 +28,7 @@ pub(crate) const ROW: u64 = 18;
 pub(crate) const MOST_ROWS: usize = 2 * MOST_PROCS * CASE_PLACES;
 
 /// The number of the step at this place, from 1.
-pub(crate) fn number_of(place: u32) -> u64
-    ensures { result ≡ place + 1 }
-{
+pub(crate) fn number_of(place: u32) -> u64 {
     u64::from(place) + 1
 }
 
@@ -66,7 +63,6 @@ pub(crate) struct Sizes {
 impl Scale {
     /// One of three.
     fn of(self, wide: u64, middle: u64, dense: u64) -> u64
-        ensures value { result ≡ by_scale self wide middle dense }
         ensures least { min wide (min middle dense) ≤ result }
         ensures most { result ≤ max wide (max middle dense) }
     {
@@ -79,7 +75,6 @@ impl Scale {
 
     /// How much room it gives.
     pub fn sizes(self) -> Sizes
-        ensures value { result ≡ sizes_of self }
         ensures bounds { AreBounded result }
     {
         Sizes {
@@ -109,15 +104,12 @@ pub(crate) struct Frame {
 }
 
 /// How many strips there are. No hub has more ports than `MOST_PORTS`.
-pub(crate) fn ports_of(drawing: &Drawing) -> u8
-    ensures { result ≡ ports_of drawing.now }
-{
+pub(crate) fn ports_of(drawing: &Drawing) -> u8 {
     drawing.strips.len().min(MOST_PORTS) as u8
 }
 
 /// The height of a band.
 pub(crate) fn height_of(scale: Scale, procs: u8, ports: u8) -> u64
-    ensures value { result ≡ height_of scale procs ports }
     ensures most { result ≤ 20000 }
 {
     scale.sizes().lane * (u64::from(procs) + 2) + STRIP * u64::from(ports)
@@ -126,7 +118,6 @@ pub(crate) fn height_of(scale: Scale, procs: u8, ports: u8) -> u64
 /// The first step of a band, or the end of the window where that comes first.
 fn step_of(window: Window, scale: Scale, band: u64) -> u32
     requires few { band ≤ 4294967296 }
-    ensures { result ≡ min (window.first + band * (sizes_of scale).steps) window.end }
 {
     let step = u64::from(window.first) + band * scale.sizes().steps;
     step.min(window.end.into()) as u32
@@ -136,7 +127,6 @@ fn step_of(window: Window, scale: Scale, band: u64) -> u32
 pub(crate) fn steps_between(scale: Scale, drawing: &Drawing, first: u64, end: u64) -> Window
     requires first { first ≤ 4294967296 }
     requires end { end ≤ 4294967296 }
-    ensures { result ≡ steps_between scale drawing.now first end }
 {
     Window {
         first: step_of(drawing.window, scale, first),
@@ -145,9 +135,7 @@ pub(crate) fn steps_between(scale: Scale, drawing: &Drawing, first: u64, end: u6
 }
 
 /// The band of this number.
-pub(crate) fn frame_of(scale: Scale, drawing: &Drawing, band: u32) -> Frame
-    ensures { result ≡ frame_of scale drawing.now band }
-{
+pub(crate) fn frame_of(scale: Scale, drawing: &Drawing, band: u32) -> Frame {
     Frame {
         scale,
         band,
@@ -160,7 +148,6 @@ pub(crate) fn frame_of(scale: Scale, drawing: &Drawing, band: u32) -> Frame
 impl Frame {
     /// Where a step stands.
     pub fn x(self, place: u32) -> u64
-        ensures value { result ≡ x_of self place }
         ensures least { LEFT ≤ result }
         ensures most { result ≤ 1099511627776 }
     {
@@ -171,7 +158,6 @@ impl Frame {
 
     /// Where it begins.
     fn top(self) -> u64
-        ensures value { result ≡ top_of self }
         ensures least { TOP ≤ result }
         ensures most { result ≤ 1125899906842624 }
     {
@@ -180,7 +166,6 @@ impl Frame {
 
     /// Where a process stands.
     pub fn y(self, pid: u8) -> u64
-        ensures value { result ≡ y_of self pid }
         ensures least { TOP ≤ result }
         ensures most { result ≤ 2251799813685248 }
     {
@@ -189,7 +174,6 @@ impl Frame {
 
     /// The floor of the strip in this row.
     pub fn floor(self, row: usize) -> u64
-        ensures value { result ≡ floor_of self row }
         ensures least { TOP ≤ result }
         ensures most { result ≤ 2251799813685248 }
     {
@@ -200,7 +184,6 @@ impl Frame {
 
     /// From where something goes on that begins by such a step.
     pub fn since(self, begun: Option<u32>) -> u64
-        ensures value { result ≡ since self begun }
         ensures least { LEFT ≤ result }
         ensures most { result ≤ 1099511627776 }
     {
@@ -211,9 +194,7 @@ impl Frame {
     }
 
     /// Whether it begins before the band ends.
-    pub fn has_begun(self, begun: Option<u32>) -> bool
-        ensures { result ≡ has_begun self begun }
-    {
+    pub fn has_begun(self, begun: Option<u32>) -> bool {
         match begun {
             Some(place) => place < self.steps.end,
             None => true,
@@ -221,9 +202,7 @@ impl Frame {
     }
 
     /// Until where something goes on that ends so.
-    pub fn until(self, end: Option<u32>) -> u32
-        ensures { result ≡ until self end }
-    {
+    pub fn until(self, end: Option<u32>) -> u32 {
         match end {
             Some(place) => place,
             None => self.steps.end,

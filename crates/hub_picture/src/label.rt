@@ -1,13 +1,11 @@
 //! What stands in a box, and what its class says.
 
-ghost use Rattle.std.specs.Prelude.{◌≡◌};
-ghost use Rattle.hub_picture.specs.Labels.{answered_label, call_label, case_label, label_of, make_label, only, step_label, last_told};
-ghost use Rattle.hub_picture.specs.Labels.{end_class, moved_value, outcome_class, outcome_value, sent_value, shown_value};
+ghost use Rattle.hub_picture.specs.Reading.{IsPlain};
 
 use crate::Asked;
 use crate::frame::Scale;
 use hub_base::{Case, Fault, Outcome, Pid, Port, Step, Value, What};
-use hub_story::Told;
+use hub_story::{Part, Told};
 
 /// What an entry is, in a word.
 #[derive(Clone, Copy)]
@@ -37,9 +35,7 @@ pub(crate) enum Label {
 }
 
 /// What an entry was told at last; `Parked` while it waits.
-pub(crate) fn last_told(ended: Option<Told>) -> What
-    ensures { result ≡ last_told ended }
-{
+pub(crate) fn last_told(ended: Option<Told>) -> What {
     match ended {
         Some(end) => end.event.what,
         None => What::Parked,
@@ -47,9 +43,7 @@ pub(crate) fn last_told(ended: Option<Told>) -> What
 }
 
 /// The only case.
-fn only(cases: &[Case]) -> Option<Case>
-    ensures { result ≡ only cases.now }
-{
+fn only(cases: &[Case]) -> Option<Case> {
     match cases {
         [case] => Some(*case),
         _ => None,
@@ -57,9 +51,7 @@ fn only(cases: &[Case]) -> Option<Case>
 }
 
 /// The label of a case; a select has none.
-fn case_label(case: Option<Case>) -> Label
-    ensures { result ≡ case_label case }
-{
+pub(crate) fn case_label(case: Option<Case>) -> Label {
     match case {
         Some(Case::Send(port, _value)) => Label::Send(port),
         Some(Case::Recv(port)) => Label::Receive(port),
@@ -68,9 +60,7 @@ fn case_label(case: Option<Case>) -> Label
 }
 
 /// The label of a call.
-fn call_label(cases: &[Case], what: What) -> Label
-    ensures { result ≡ call_label cases.now what }
-{
+fn call_label(cases: &[Case], what: What) -> Label {
     match what {
         What::Fired { case, .. } => case_label(cases.get(usize::from(case)).copied()),
         What::Default => Label::Default,
@@ -79,9 +69,7 @@ fn call_label(cases: &[Case], what: What) -> Label
 }
 
 /// The label of a make.
-fn make_label(what: What) -> Label
-    ensures { result ≡ make_label what }
-{
+fn make_label(what: What) -> Label {
     match what {
         What::Made(port) => Label::Make(port),
         _ => Label::Select,
@@ -89,9 +77,7 @@ fn make_label(what: What) -> Label
 }
 
 /// The label of a step that was told so at last.
-fn step_label(step: &Step, what: What) -> Label
-    ensures { result ≡ step_label step.now what }
-{
+fn step_label(step: &Step, what: What) -> Label {
     match step {
         Step::Make(_cap) => make_label(what),
         Step::Call { cases, .. } => call_label(cases.as_slice(), what),
@@ -104,9 +90,7 @@ fn step_label(step: &Step, what: What) -> Label
 }
 
 /// The same, where a fault has its number.
-fn answered_label(step: &Step, what: What) -> Label
-    ensures { result ≡ answered_label step.now what }
-{
+fn answered_label(step: &Step, what: What) -> Label {
     match what {
         What::Fault(fault) => Label::Refused(fault),
         _ => step_label(step, what),
@@ -114,16 +98,12 @@ fn answered_label(step: &Step, what: What) -> Label
 }
 
 /// The label of an entry.
-pub(crate) fn label_of(asked: &Asked) -> Label
-    ensures { result ≡ label_of asked.now }
-{
+pub(crate) fn label_of(asked: &Asked) -> Label {
     answered_label(&asked.entry.step, last_told(asked.ended))
 }
 
 /// The value that a case sends.
-fn sent_value(case: Option<Case>) -> Option<Value>
-    ensures { result ≡ sent_value case }
-{
+fn sent_value(case: Option<Case>) -> Option<Value> {
     match case {
         Some(Case::Send(_port, value)) => Some(value),
         _ => None,
@@ -131,9 +111,7 @@ fn sent_value(case: Option<Case>) -> Option<Value>
 }
 
 /// The value that a case moved.
-fn outcome_value(case: Option<Case>, outcome: Outcome) -> Option<Value>
-    ensures { result ≡ outcome_value case outcome }
-{
+fn outcome_value(case: Option<Case>, outcome: Outcome) -> Option<Value> {
     match outcome {
         Outcome::Sent => sent_value(case),
         Outcome::Got(value) => Some(value),
@@ -142,9 +120,7 @@ fn outcome_value(case: Option<Case>, outcome: Outcome) -> Option<Value>
 }
 
 /// The value that a step moved.
-fn moved_value(step: &Step, what: What) -> Option<Value>
-    ensures { result ≡ moved_value step.now what }
-{
+fn moved_value(step: &Step, what: What) -> Option<Value> {
     let Step::Call { cases, .. } = step else {
         return None;
     };
@@ -158,18 +134,24 @@ fn moved_value(step: &Step, what: What) -> Option<Value>
 }
 
 /// The value that an entry moved, where there is room for it.
-pub(crate) fn shown_value(scale: Scale, asked: &Asked) -> Option<Value>
-    ensures { result ≡ shown_value scale asked.now }
-{
+pub(crate) fn shown_value(scale: Scale, asked: &Asked) -> Option<Value> {
     match scale {
         Scale::Wide => moved_value(&asked.entry.step, last_told(asked.ended)),
         Scale::Middle | Scale::Dense => None,
     }
 }
 
+/// What the class of an entry tells that it was told at last: a call of the clock that was woken is as good as done.
+pub(crate) fn class_told(asked: &Asked) -> What {
+    match (asked.part, last_told(asked.ended)) {
+        (Part::OwnCall, What::Cancelled | What::Stalled) => What::Done,
+        (_, what) => what,
+    }
+}
+
 /// What the class of a case that fired says besides.
 fn outcome_class(outcome: Outcome) -> &'static [u8]
-    ensures { result.now ≡ outcome_class outcome }
+    ensures { IsPlain result.now }
 {
     match outcome {
         Outcome::Sent | Outcome::Got(_) => b"",
@@ -180,7 +162,7 @@ fn outcome_class(outcome: Outcome) -> &'static [u8]
 
 /// What the class of an entry says of its end.
 pub(crate) fn end_class(what: What) -> &'static [u8]
-    ensures { result.now ≡ end_class what }
+    ensures { IsPlain result.now }
 {
     match what {
         What::Fired { outcome, .. } => outcome_class(outcome),

@@ -1,7 +1,7 @@
 //! The picture of a journal: its story as shapes, and those as SVG.
 //!
 //! A drawing says what is shown, in processes and steps. Where that stands on a page, and how it is spelled, is left to
-//! the text of the picture, which is a function of the drawing.
+//! the text of the picture.
 #![tactic(auto)]
 
 mod arrows;
@@ -27,7 +27,7 @@ pub use asked::Asked;
 pub use drawing::{Drawing, drawing_of};
 pub use hub_story::Window;
 pub use lanes::Lane;
-pub use laws::{ends_are_told, texts_are_plain};
+pub use laws::ends_are_told;
 pub use levels::Held;
 pub use strips::Strip;
 pub use svg::write_svg;

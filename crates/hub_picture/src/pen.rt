@@ -1,19 +1,15 @@
 //! Things of one kind, written one after the other.
+#![tactic(auto, using(crate::proofs::Reading::failed))]
 
-ghost use Rattle.std.specs.Prelude.{List, ℕ};
-ghost use Rattle.std.specs.List.{flat_map};
-ghost use Rattle.hub_picture.specs.Pieces.{Appends, nows};
+ghost use Rattle.hub_picture.specs.Reading.{Elements};
 
 use std::alloc::AllocError;
 
 /// How a thing is written.
 pub(crate) trait Pen<T> {
-    /// Its text.
-    ghost text: { Self → T → List ℕ };
-
     /// Appends it.
     fn put(&self, out: &mut Vec<u8>, thing: &T) -> Result<(), AllocError>
-        ensures { Appends out.old out.new (text self.now thing.now) result };
+        ensures { Elements out.old out.new result };
 }
 
 /// Appends these things, in order.
@@ -22,7 +18,7 @@ pub(crate) fn put_each<T, P: Pen<T>>(
     pen: &P,
     things: &[T],
 ) -> Result<(), AllocError>
-    ensures { Appends out.old out.new (flat_map (P.text pen.now) things.now) result }
+    ensures { Elements out.old out.new result }
 {
     for thing in things {
         match pen.put(out, thing) {
@@ -38,8 +34,6 @@ pub(crate) fn put_each<T, P: Pen<T>>(
 struct There<'a, P>(&'a P);
 
 impl<T, P: Pen<T>> Pen<&T> for There<'_, P> {
-    ghost text = { λ pen thing. P.text pen.0.now thing.now };
-
     fn put(&self, out: &mut Vec<u8>, thing: &&T) -> Result<(), AllocError> {
         self.0.put(out, *thing)
     }
@@ -51,7 +45,7 @@ pub(crate) fn put_all<T, P: Pen<T>>(
     pen: &P,
     things: &[&T],
 ) -> Result<(), AllocError>
-    ensures { Appends out.old out.new (flat_map (P.text pen.now) (nows things.now)) result }
+    ensures { Elements out.old out.new result }
 {
     put_each(out, &There(pen), things)
 }

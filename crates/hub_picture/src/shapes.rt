@@ -5,6 +5,8 @@ ghost use Rattle.std.specs.Prelude.{◌≡◌, ◌<◌, ◌-◌, ◌^◌, IfOk, 
 ghost use Rattle.hub_picture.specs.Drawings.{IsDrawnIn};
 ghost use Rattle.hub_picture.specs.Levels.{all_levels, all_strips, shown_strips};
 ghost use Rattle.hub_picture.specs.Shapes.{HasAsked, HasMoved};
+ghost use Rattle.hub_story.specs.ByClock.{to_others};
+ghost use Rattle.hub_story.specs.Clock.{clock_of};
 
 use crate::arrows::arrows_in;
 use crate::asked::{Shown, asked_in};
@@ -18,7 +20,7 @@ use crate::strips::strips_of;
 use crate::waiters::waiters_in;
 use crate::{Strip, Window};
 use hub_core::ShortJournal;
-use hub_story::{Story, Told};
+use hub_story::{Story, Told, to_others};
 use std::alloc::{AllocError, Global};
 
 /// The strips of the ports that were made.
@@ -39,23 +41,25 @@ fn all_levels(alloc: Global, window: Window, moves: &Moves<'_>) -> Result<Levels
     levels_in(alloc, window, moves, &made)
 }
 
-/// Puts in what processes ask, whom a step stalled, and who is outside in the end.
+/// Puts in what processes ask, whom a step stalled, and who is outside in the end, where these calls of others wait.
 fn put_asked(
     drawing: &mut Drawing,
     alloc: Global,
     window: Window,
     journal: &ShortJournal,
     story: &Story,
+    others: &[Told],
 ) -> Result<(), AllocError>
     requires few { length journal.now.entries < 2 ^ 32 - 1 }
+    requires others { others.now ≡ to_others drawing.old.clock story.now.waiting.items }
     ensures { OnOk result (HasAsked journal.now story.now window drawing.old drawing.new) }
 {
-    let entries = journal.entries();
+    let (clock, entries) = (drawing.clock, journal.entries());
     drawing.lanes = lanes_of(alloc, journal.head().procs, entries, &story.told)?;
-    drawing.boxes = asked_in(alloc, Shown::Boxes, window, entries, story)?;
-    drawing.bars = asked_in(alloc, Shown::Bars, window, entries, story)?;
-    drawing.stalls = all_stalled(alloc, window, &story.told)?;
-    drawing.outside = outside_in(alloc, window, journal, story)?;
+    drawing.boxes = asked_in(alloc, Shown::Boxes, window, clock, entries, story)?;
+    drawing.bars = asked_in(alloc, Shown::Bars, window, clock, entries, story)?;
+    drawing.stalls = to_others(alloc, clock, &all_stalled(alloc, window, &story.told)?)?;
+    drawing.outside = outside_in(alloc, window, clock, journal, story, others)?;
     Ok(())
 }
 
@@ -90,9 +94,11 @@ pub(crate) fn put_shapes(
     requires few { length journal.now.entries < 2 ^ 32 - 1 }
     requires procs { drawing.old.procs ≡ journal.now.head.procs }
     requires window { drawing.old.window ≡ window }
+    requires clock { drawing.old.clock ≡ clock_of journal.now.head journal.now.entries }
     ensures { OnOk result (IsDrawnIn window journal.now story.now drawing.new) }
 {
-    put_asked(drawing, alloc, window, journal, story)?;
+    let others = to_others(alloc, drawing.clock, &story.waiting)?;
+    put_asked(drawing, alloc, window, journal, story, &others)?;
     let moves = Moves::new(alloc, journal.entries(), &story.told)?;
-    put_moved(drawing, alloc, window, &moves, &story.waiting)
+    put_moved(drawing, alloc, window, &moves, &others)
 }

@@ -1,5 +1,5 @@
 -- Processes that were stopped on their way: how far they came, and why they went no further.
-use Rattle.std.proofs.Common.{◌≡◌, ℕ, ◌+◌, ◌≤◌, ◌⊎◌, ◌||◌, inl, inr, Bool, true, false, List, [], ◌∷◌, ◌++◌, length, map, refl, ap, ◌∙◌, sym, subst}
+use Rattle.std.proofs.Common.{◌≡◌, ℕ, ◌≤◌, ◌⊎◌, ◌||◌, inl, inr, Bool, true, false, List, [], ◌∷◌, ◌++◌, length, map, refl, ap, ◌∙◌, sym, subst}
 use Rattle.std.proofs.Common.{Option, None, append-nil, arith}
 use Rattle.std.specs.Prelude.{not}
 use Rattle.std.specs.List.{list_any}
@@ -97,11 +97,7 @@ makes_then_exit (c ∷ cs) script words (a ∷ more) f =
 -- ---- what can come next
 
 left_untold : (s : ScriptStep) (rest : List ScriptStep) → left s rest None ≡ rest
-left_untold (Send p v) rest = refl
-left_untold (Recv p) rest = refl
-left_untold (Select cases default) rest = refl
-left_untold (Close p) rest = refl
-left_untold (Range p) rest = refl
+left_untold s rest = grind arith
 
 -- whatever is left of a script can be followed
 pub can_follow : (words : ℕ → ℕ) (rest : List ScriptStep) (k : ℕ) → (more : List Asked) × Follows rest words k (answered (next_of rest words k) None ∷ more)

@@ -20,4 +20,5 @@ pub use gate::{Gate, NoGate};
 pub use report::{PortReport, Report};
 pub use runner::{run_scenario, run_scenario_short};
 pub use short_report::ShortReport;
+pub use worker::repeats;
 pub use writer::{write_report, write_short_report};

@@ -2,18 +2,9 @@
 
 ghost use Rattle.std.specs.Prelude.{◌≡◌, ◌≤◌, ◌<◌, [], List, IfOk, IfErr, IsErrOf, OnOk, All, map, vec_len};
 ghost use mathlib.Core.List.{IsPrefix};
-ghost use Rattle.hub_base.specs.Entry.{Entry};
-ghost use Rattle.hub_base.specs.Head.{AreOf};
-ghost use Rattle.hub_base.specs.Text.{steps_of};
-ghost use Rattle.hub_laws.specs.Journals.{IsLegal};
-ghost use Rattle.hub_live.specs.Calls.{AreSeats, Later};
-ghost use Rattle.hub_scenario.specs.Scenario.{scenario_view, run_head};
-ghost use Rattle.hub_runner.specs.Reports.{IsReportOf};
-ghost use Rattle.hub_runner.specs.CutShort.{IsCutShort};
-ghost use Rattle.hub_runner.specs.Ports.{BeginsWithPorts};
-ghost use Rattle.hub_runner.specs.Running.{AreMakes, MakesStopped, IsReady, IsOutcome, HaveEnded, ShowPorts};
-ghost use Rattle.hub_runner.specs.Scripts.{AllFollow};
-ghost use Rattle.hub_runner.specs.Working.{asked_of, asker_of, Onward};
+ghost use Rattle.hub_runner.specs.Prelude.{Entry, AreOf, steps_of, IsLegal, AreSeats, Later, scenario_view, run_head, IsReportOf};
+ghost use Rattle.hub_runner.specs.Prelude.{IsCutShort, BeginsWithPorts, AreMakes, MakesStopped, IsReady, IsOutcome, HaveEnded};
+ghost use Rattle.hub_runner.specs.Prelude.{ShowPorts, AllFollow, asked_of, asker_of, Onward};
 
 use crate::fault::{RunFault, with_outcome};
 use crate::following::Following;

@@ -3,15 +3,9 @@
 ghost use Rattle.std.specs.Prelude.{◌≡◌, ◌<◌, ◌-◌, ◌^◌, ◌+◌, ◌&&◌, ◌++◌, ◌∷◌, [], List, ℕ, Some, true, IfOk, IfErr, OnOk};
 ghost use Rattle.std.specs.List.{list_all};
 ghost use Rattle.hub_base.specs.declared.entry.Step.TheVariants.{Exit};
-ghost use Rattle.hub_base.specs.Values.{is_stalled};
-ghost use Rattle.hub_live.specs.Calls.{Later, Refused};
-ghost use Rattle.hub_scenario.specs.declared.script.ScriptStep.{ScriptStep};
-ghost use Rattle.hub_scenario.specs.ChoiceWords.{choice_word};
-ghost use Rattle.hub_scenario.specs.Steps.{has_step};
-ghost use Rattle.hub_runner.specs.Scripts.{asks, gets, is_range, taken_after};
-ghost use Rattle.hub_runner.specs.CutShort.{steps_asked};
-ghost use Rattle.hub_runner.specs.Working.{asked_of, has_exited, Onward, Leads, Followed, goes_on_with};
-ghost use Rattle.hub_runner.specs.Working.{Stopped, WasStopped};
+ghost use Rattle.hub_runner.specs.Prelude.{is_stalled, Later, Refused, ScriptStep, choice_word, has_step, asks, gets, is_range};
+ghost use Rattle.hub_runner.specs.Prelude.{taken_after, steps_asked, asked_of, has_exited, Onward, Leads, Followed, goes_on_with};
+ghost use Rattle.hub_runner.specs.Prelude.{Stopped, WasStopped};
 
 use crate::gate::{Gate, Passes};
 use hub_base::{Event, Fault, Outcome, What, copy_cases};
@@ -38,7 +32,7 @@ fn is_range(step: &ScriptStep) -> bool
 }
 
 /// Whether the same step is made again after this answer.
-fn repeats(step: &ScriptStep, what: What) -> bool
+pub fn repeats(step: &ScriptStep, what: What) -> bool
     ensures { result ≡ (is_range step.now && gets what) }
 {
     is_range(step) && gets(what)

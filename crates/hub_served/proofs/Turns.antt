@@ -10,7 +10,7 @@ use Rattle.std.proofs.lemmas.Option.{get_or_from_slice_get, slice_get_read, slic
 use Rattle.std.specs.Option.{option_map}
 use Rattle.hub_base.specs.Entry.{Entry}
 use Rattle.hub_base.specs.declared.value.Pid.{Pid}
-use Rattle.hub_served.specs.Given.{AreLinks, AreTurns, place_from, turn_from}
+use Rattle.hub_served.specs.Given.{AreLinks, AreTurns, GivenView, place_from, turn_from}
 
 -- what stands from a place on
 left : (place : ℕ) (es : List Entry) (e : Entry) → slice_get es place ≡ Some e → drop place es ≡ e ∷ drop (suc place) es
@@ -84,6 +84,14 @@ turn_behind (Some q) least all place within is below = omega (arith, within.0, i
 -- what is read at a place within a table
 pub read_at : (xs : List ℕ) (n x : ℕ) → n < length xs → x ≡ get_or xs n x → x ≡ get_or xs n 0
 read_at xs n x below is = sym (get_or_from_slice_get xs n x 0 (slice_get_read xs (length xs) n x refl below is))
+
+-- what is read of a process in the table of a journal with this view
+pub place_is : (turns : List ℕ) (n m place : ℕ) (v g : GivenView) → AreTurns turns v.made v.entries → v ≡ g → n < 256 → m ≡ n →
+    place ≡ get_or turns m place → place ≡ place_from n g.made g.entries
+place_is turns n m place v g are same below own is =
+    let there : place ≡ get_or turns n 0 =
+    read_at turns n place (omega (arith, below, are.whole)) (is ∙ ap (λ k. get_or turns k place) own) in
+    subst (λ (w : GivenView). place ≡ place_from n w.made w.entries) same (there ∙ are.first n below)
 
 -- a process that is told of an entry is that of one
 pub entry_of : (o : Option Entry) (pid : Pid) → Some pid ≡ option_map (λ e. e.pid) o → (e : Entry) × (o ≡ Some e) × (e.pid ≡ pid)

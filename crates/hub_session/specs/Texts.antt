@@ -1,6 +1,6 @@
 -- The texts that C reads of a hub.
 use Rattle.std.specs.Prelude.{ℕ, List, [], Option, None, Some}
-use Rattle.std.specs.Option.{option_map, option_map_or}
+use Rattle.std.specs.Option.{option_map_or}
 use Rattle.hub_base.specs.Journal.{JournalView}
 use Rattle.hub_core.specs.HubView.{ShortInMemory}
 use Rattle.hub_cut.specs.Recorder.{journal_of}

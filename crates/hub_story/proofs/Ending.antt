@@ -157,7 +157,7 @@ last-below pid place before (t ∷ ts) old a is =
     omega (arith, later)
 
 -- an event is told of no later entry than the one by whose step it came
-tells-below : (before : List Turned) (t : Turned) (e : Event) (x : Told) → tells_it before t e ≡ Some x → x.asked < length before + 1
+pub tells-below : (before : List Turned) (t : Turned) (e : Event) (x : Told) → tells_it before t e ≡ Some x → x.asked < length before + 1
 tells-below before t e x = by (may_end e.what)
   where
     tell : ℕ → Told

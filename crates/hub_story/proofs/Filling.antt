@@ -82,7 +82,7 @@ told_by-all h es k few =
     (all_more (λ x. (0 ≤ x.by) × (x.by < 0 + length ts)) (λ x. nat_lt x.by k ≡ true) (told_from [] ts)
     (λ x b. is-below x.by k (omega (arith, b.1, length-turns (opening h) es, few))) (told-within [] ts))
 
-told_by-take : (h : Head) (es : List Entry) (k : ℕ) → told_by k (told h es) ≡ told h (take k es)
+pub told_by-take : (h : Head) (es : List Entry) (k : ℕ) → told_by k (told h es) ≡ told h (take k es)
 told_by-take h es k = by (nat_lt k (length es)) refl
   where
     by : (b : Bool) → b ≡ nat_lt k (length es) → told_by k (told h es) ≡ told h (take k es)

@@ -1,6 +1,6 @@
 -- A list that grows by what a reading gives of each item is what the reading gives of the items so far.
 use Rattle.std.proofs.Common.{◌≡◌, ◌<◌, ◌+◌, ℕ, List, [], ◌∷◌, ◌++◌, length, refl}
-use Rattle.std.proofs.Common.{ap, ◌∙◌, sym, Option, Some, None, get_or, take, add-one, append-nil, append_assoc, length-append}
+use Rattle.std.proofs.Common.{ap, ◌∙◌, subst, sym, Option, Some, None, get_or, take, add-one, append-nil, append_assoc, length-append}
 use Rattle.std.proofs.Common.{Result, Ok, Err, OnOk}
 use Rattle.std.proofs.Common.{◌≤◌, Bool, zero, suc, filter, arith}
 use Rattle.std.specs.List.{filter_map, cons_option}
@@ -17,6 +17,13 @@ on-ok (Err e) f p = tt
 -- one item more
 pub taken-next : {X : Type 0} (xs : List X) (i : ℕ) (d : X) → i < length xs → take (i + 1) xs ≡ take i xs ++ get_or xs i d ∷ []
 taken-next xs i d below = rw add-one (take-suc xs i d below)
+
+-- what holds behind those before it and it holds behind one more
+pub noted-next : {X : Type 0} (P : List X → Type 0) (before xs : List X) (i : ℕ) (x : X) → i < length xs → x ≡ get_or xs i x →
+    P (before ++ take i xs ++ x ∷ []) → P (before ++ take (i + 1) xs)
+noted-next P before xs i x below is =
+    subst P (append_assoc before (take i xs) (x ∷ []) ∙ ap (λ y. before ++ (take i xs ++ y ∷ [])) is
+    ∙ ap (λ l. before ++ l) (sym (taken-next xs i x below)))
 
 pub filter_map-take : {X Y : Type 0} (f : X → Option Y) (xs : List X) (i : ℕ) (d : X) → i < length xs →
     filter_map f (take (i + 1) xs) ≡ filter_map f (take i xs) ++ cons_option (f (get_or xs i d)) []

@@ -1,6 +1,6 @@
 -- Who received from each port, and who has left, after one event more.
-use Rattle.std.proofs.Common.{◌≡◌, ◌<◌, ◌≤◌, ◌+◌, ◌==◌, ◌&&◌, ◌||◌, ℕ, Bool, true, false, not, cond, arith, List, [], ◌∷◌, ◌++◌}
-use Rattle.std.proofs.Common.{refl, ap, ◌∙◌, sym, append-nil, filter, length, map, nat_lt, subst, take, get_or, Option, None, Some, slice_get, slice_index_or}
+use Rattle.std.proofs.Common.{◌≡◌, ◌==◌, ◌&&◌, ◌||◌, ℕ, Bool, true, false, not, cond, arith, List, [], ◌∷◌, ◌++◌}
+use Rattle.std.proofs.Common.{refl, ap, ◌∙◌, sym, append-nil, length, map, Option, None, Some, slice_get, slice_index_or}
 use Rattle.std.specs.List.{cons_option, filter_map, list_all, list_any}
 use Rattle.std.specs.Option.{option_and_then, option_map, option_map_or}
 use Rattle.std.proofs.lemmas.Bool.{eqb-true}
@@ -21,13 +21,11 @@ use Rattle.hub_story.specs.declared.told.Told.{Told}
 use Rattle.hub_story.specs.declared.moved.Moved.{Moved}
 use Rattle.hub_story.specs.declared.receivers.Receivers.{Receivers as Noted}
 use Rattle.hub_story.specs.Leavers.{is_done, is_told_to, leavers, with_leaver}
-use Rattle.hub_story.specs.Levels.{told_by}
 use Rattle.hub_story.specs.Lives.{life, reopened, reopens, with_life}
 use Rattle.hub_story.specs.Moves.{got_from, is_same, move_of, value_at}
 use Rattle.hub_story.specs.OfPorts.{one_of, things_on}
 use Rattle.hub_story.specs.Passing.{moved_by, receives}
 use Rattle.hub_story.specs.Receivers.{AreReceivers, are_gone, begun, gone_from, got_there, receiver_by, receivers}
-use Rattle.hub_story.proofs.Filters.{filter-take}
 use Rattle.hub_story.proofs.OneSide.{moved-on}
 
 abbrev pid_of : Moved → ℕ

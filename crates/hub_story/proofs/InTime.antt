@@ -49,7 +49,7 @@ moved-told pick es t m = by (of_what pick (cases_at es t.asked) t.event.what)
     by None h = absurd cc
     by (Some v) h = ap (λ (x : Moved). x.told) (sym (same-inside h))
 
-tells-by : (before : List Turned) (t : Turned) (e : Event) (x : Told) → tells_it before t e ≡ Some x → x.by ≡ length before
+pub tells-by : (before : List Turned) (t : Turned) (e : Event) (x : Told) → tells_it before t e ≡ Some x → x.by ≡ length before
 tells-by before t e x = by (asked_by before t e)
   where
     by : (o : Option ℕ) → option_map (λ a. record { asked = a; by = length before; event = e }) o ≡ Some x → x.by ≡ length before

@@ -11,6 +11,7 @@ pub mod Steps
 pub mod Once
 pub mod Waits
 pub mod Filling
+pub mod Walks
 pub mod Editions
 pub mod OfPorts
 pub mod Clocks
@@ -18,3 +19,8 @@ pub mod Gone
 pub mod Movers
 pub mod Counted
 pub mod Pushed
+pub mod Table
+pub mod Pairs
+pub mod Outlined
+pub mod Late
+pub mod Outsiders

@@ -10,7 +10,7 @@ use Rattle.std.proofs.lemmas.List.Elements.{filter_map-append}
 use Rattle.hub_base.specs.declared.value.Port.{Port}
 use Rattle.hub_base.specs.declared.value.Value.{Value}
 use Rattle.hub_base.specs.Entry.{Entry}
-use Rattle.hub_base.specs.Values.{cases_at, sent_on, got_on}
+use Rattle.hub_base.specs.Values.{cases_at}
 use Rattle.hub_parts.specs.declared.side.Side.{Side}
 use Rattle.hub_parts.specs.declared.side.Side.TheVariants as side
 use Rattle.hub_story.specs.declared.by_port.TheConstants.{PORT_NUMBERS}

@@ -1,5 +1,5 @@
 -- What moved on one side of a port comes out of what moved.
-use Rattle.std.proofs.Common.{◌≡◌, List, Option, None, Some, refl}
+use Rattle.std.proofs.Common.{◌≡◌, List, Option, Some, refl}
 use Rattle.std.specs.Option.{option_and_then}
 use Rattle.hub_base.specs.declared.case.Case.{Case}
 use Rattle.hub_base.specs.declared.case.Case.TheVariants.{Send, Recv}

@@ -1,27 +1,22 @@
 -- One entry more of a telling.
 use Rattle.std.proofs.Common.{◌≡◌, ◌<◌, ◌+◌, ◌==◌, ℕ, Bool, true, false, cond, List, [], ◌∷◌, ◌++◌, length, replicate, refl, ap, ◌∙◌, sym, Option, Some, None}
-use Rattle.std.proofs.Common.{zero, suc, arith, get_or, take, add-one}
+use Rattle.std.proofs.Common.{zero, suc, arith}
 use Rattle.std.specs.Prelude.{slice_index_or}
 use Rattle.std.specs.List.{filter_map, cons_option}
 use Rattle.std.specs.Option.{option_map}
 use Rattle.std.proofs.Math.ListN.{length-set, set}
-use Rattle.std.proofs.Math.Seq.{take-suc}
 use Rattle.std.proofs.lemmas.Bool.{eqb-true, eqb-false}
-use Rattle.std.proofs.lemmas.List.{get_or-set_same, get_or-set_other, length-take-le}
-use Rattle.hub_base.specs.declared.head.Head.{Head}
+use Rattle.std.proofs.lemmas.List.{get_or-set_same, get_or-set_other}
 use Rattle.hub_base.specs.declared.value.Pid.{Pid}
 use Rattle.hub_base.specs.Entry.{Entry, Step}
 use Rattle.hub_base.specs.declared.entry.Step.TheVariants.{Make, Call, Close, Exit, Cancel, Start, Reopen}
 use Rattle.hub_base.specs.declared.event.Event.{Event}
-use Rattle.hub_base.specs.State.{State, opening}
-use Rattle.hub_base.specs.Runs.{state, moves}
+use Rattle.hub_base.specs.State.{State}
+use Rattle.hub_base.specs.Runs.{moves}
 use Rattle.hub_base.specs.Values.{Turned, turns_after, refused}
-use Rattle.hub_core.specs.Records.{MachineLists}
-use Rattle.hub_core.specs.Follows.{Follows, Answers}
 use Rattle.hub_story.specs.declared.told.Told.{Told}
-use Rattle.hub_story.specs.Told.{may_end, call_or, latest_asked, last_asked, tells_it, told}
+use Rattle.hub_story.specs.Told.{may_end, call_or, latest_asked, last_asked, tells_it}
 use Rattle.hub_story.specs.LastCalls.{call_in, with_step, with_call, tells_of, AreLast}
-use Rattle.hub_story.proofs.InTime.{turns-entry, told-entry}
 
 -- ---- the last calls
 pub last_asked-entry : (pid : Pid) (place : ℕ) (before : Option ℕ) (ts : List Turned) (t : Turned) →
@@ -58,7 +53,7 @@ step_in calls q place (Start r) pid false is fits = refl
 step_in calls q place (Reopen p cap) pid true is fits = refl
 step_in calls q place (Reopen p cap) pid false is fits = refl
 
-call_in-with : (calls : List (Option ℕ)) (place : ℕ) (t : Turned) (pid : Pid) → t.entry.pid.0 < length calls →
+pub call_in-with : (calls : List (Option ℕ)) (place : ℕ) (t : Turned) (pid : Pid) → t.entry.pid.0 < length calls →
     call_in (with_call calls place t) pid ≡ latest_asked pid place (call_in calls pid) t
 call_in-with calls place t pid fits = by (refused t.events) (t.entry.pid.0 == pid.0) refl
   where
@@ -79,7 +74,7 @@ length-with_step calls q place (Cancel r) = refl
 length-with_step calls q place (Start r) = refl
 length-with_step calls q place (Reopen p cap) = refl
 
-length-with_call : (calls : List (Option ℕ)) (place : ℕ) (t : Turned) → length (with_call calls place t) ≡ length calls
+pub length-with_call : (calls : List (Option ℕ)) (place : ℕ) (t : Turned) → length (with_call calls place t) ≡ length calls
 length-with_call calls place t = by (refused t.events)
   where
     by : (bad : Bool) → length (cond bad calls (with_step calls t.entry.pid.0 place t.entry.step)) ≡ length calls
@@ -104,7 +99,7 @@ tells-same calls before t e last = by (may_end e.what)
     by true = ap (option_map tell) (last e.pid)
     by false = refl
 
-all-same : (calls : List (Option ℕ)) (before : List Turned) (t : Turned) (es : List Event) → AreLast calls (before ++ t ∷ []) →
+pub all-same : (calls : List (Option ℕ)) (before : List Turned) (t : Turned) (es : List Event) → AreLast calls (before ++ t ∷ []) →
     filter_map (tells_of calls (length before)) es ≡ filter_map (tells_it before t) es
 all-same calls before t [] last = refl
 all-same calls before t (e ∷ es) last =
@@ -114,48 +109,3 @@ all-same calls before t (e ∷ es) last =
 pub length-turns : (s : State) (es : List Entry) → length (turns_after s es) ≡ length es
 length-turns s [] = refl
 length-turns s (e ∷ es) = ap suc (length-turns (moves s e).state es)
-
--- what a telling has after these entries
-pub record HasTold (h : Head) (es : List Entry) (calls : List (Option ℕ)) (all : List Told) : Type 0 where
-  pub places : length calls ≡ 256
-  pub last : AreLast calls (turns_after (opening h) es)
-  pub told : all ≡ told h es
-
-pub has-none : (h : Head) (calls : List (Option ℕ)) → calls ≡ replicate 256 None → HasTold h [] calls []
-has-none h calls is = rw is (record { places = refl; last = λ pid. none-called 256 pid.0; told = refl })
-
-pub has-entry : (h : Head) (es : List Entry) (e : Entry) (calls : List (Option ℕ)) (all : List Told) (events : List Event) →
-    HasTold h es calls all → events ≡ (moves (state h es) e).events → e.pid.0 < 256 →
-    let now : List (Option ℕ) = with_call calls (length es) (record { entry = e; events = events }) in
-    HasTold h (es ++ e ∷ []) now (all ++ filter_map (tells_of now (length es)) events)
-has-entry h es e calls all events has is fits =
-    let ts : List Turned = turns_after (opening h) es in
-    let t : Turned = record { entry = e; events = events } in
-    let now : List (Option ℕ) = with_call calls (length es) t in
-    let many : length ts ≡ length es = length-turns (opening h) es in
-    let grown : turns_after (opening h) (es ++ e ∷ []) ≡ ts ++ t ∷ [] =
-    turns-entry (opening h) es e ∙ ap (λ (x : List Event). ts ++ record { entry = e; events = x } ∷ []) (sym is) in
-    let last : AreLast now (ts ++ t ∷ []) = λ pid.
-    call_in-with calls (length es) t pid (omega (arith, has.places))
-    ∙ ap (λ b. latest_asked pid (length es) b t) (has.last pid)
-    ∙ ap (λ k. latest_asked pid k (last_asked pid 0 None ts) t) (omega (arith, many)) ∙ sym (last_asked-entry pid 0 None ts t) in
-    record {
-      places = length-with_call calls (length es) t ∙ has.places;
-      last = rw grown last;
-      told = ap (λ xs. xs ++ filter_map (tells_of now (length es)) events) has.told
-          ∙ ap (λ k. told h es ++ filter_map (tells_of now k) events) (sym many)
-          ∙ ap (λ xs. told h es ++ xs) (all-same now ts t events last)
-          ∙ ap (λ (x : List Event). told h es ++ filter_map (tells_it ts (record { entry = e; events = x })) x) is
-          ∙ sym (told-entry h es e);
-    }
-
-pub has-next : (h : Head) (entries : List Entry) (i : ℕ) (e : Entry) (calls now : List (Option ℕ)) (all new : List Told) (events : List Event)
-    (m : MachineLists) →
-    i < length entries → e ≡ get_or entries i e → HasTold h (take i entries) calls all → Answers h (take i entries) e m events → e.pid.0 < 256 →
-    now ≡ with_call calls i (record { entry = e; events = events }) → new ≡ all ++ filter_map (tells_of now i) events →
-    Follows h (take (i + 1) entries) m × HasTold h (take (i + 1) entries) now new
-has-next h entries i e calls now all new events m below is has answers fits noted made =
-    let grown : take (i + 1) entries ≡ take i entries ++ e ∷ [] = rw add-one (take-suc entries i e below) ∙ ap (λ x. take i entries ++ x ∷ []) (sym is) in
-    let many : i ≡ length (take i entries) = omega (arith, length-take-le i entries (omega arith)) in
-    let next = has-entry h (take i entries) e calls all events has answers.events fits in
-    rw (grown, made, noted) (answers.follows, rw (sym many) at next)

@@ -1,6 +1,6 @@
 -- How full a port is, step by step: how many values were sent and received by its first entries,
 -- counted from what they tell.
-use Rattle.std.specs.Prelude.{◌≡◌, ℕ, zero, ◌+◌, ◌-◌, nat_lt, List, filter, length, slice_index_or}
+use Rattle.std.specs.Prelude.{◌≡◌, ℕ, zero, ◌+◌, ◌-◌, ◌==◌, nat_lt, List, filter, length, slice_index_or}
 use Rattle.hub_base.specs.declared.value.Port.{Port}
 use Rattle.hub_base.specs.Entry.{Entry}
 use Rattle.hub_parts.specs.declared.side.Side.{Side}
@@ -14,6 +14,10 @@ use Rattle.hub_story.specs.Passing.{sends, receives}
 -- what came by the first k entries
 abbrev pub told_by : ℕ → List Told → List Told
 told_by k all = filter (λ t. nat_lt t.by k) all
+
+-- what came by the step at this place
+abbrev pub came_by : ℕ → List Told → List Told
+came_by place all = filter (λ t. t.by == place) all
 
 -- how many values were sent on the port by then
 abbrev pub sent_by : List Entry → List Told → Port → ℕ → ℕ

@@ -1,6 +1,8 @@
 pub mod Told
 pub mod Clock
+pub mod ByClock
 pub mod LastCalls
+pub mod Walks
 pub mod Moves
 pub mod Passing
 pub mod Waiting
@@ -18,4 +20,7 @@ pub mod Receivers
 pub mod LastMoves
 pub mod Whom
 pub mod PortMoves
+pub mod Partners
+pub mod Outlines
+pub mod LateEnds
 pub mod StoryRows

@@ -1,7 +1,7 @@
 //! The lives of a port: one that is closed and drained may be opened again.
 
 ghost use Rattle.std.specs.Prelude.{◌≡◌};
-ghost use Rattle.hub_story.specs.Lives.{most_room, reopened, reopened_port, room_at, room_of, with_room};
+ghost use Rattle.hub_story.specs.Lives.{closed_port, is_turn, most_room, port_closed, reopened, reopened_port, room_at, room_of, with_room};
 
 use crate::Told;
 use hub_base::{Port, Step, StepRef, What};
@@ -29,6 +29,37 @@ pub fn reopened_port(entries: &ShortEntries, told: &Told) -> Option<Port>
         Some(entry) => reopened(&entry.step),
         None => None,
     }
+}
+
+/// The port that the step closes.
+fn port_closed(step: &StepRef<'_>) -> Option<Port>
+    ensures { result ≡ port_closed step.now }
+{
+    match step {
+        Step::Close(port) => Some(*port),
+        _ => None,
+    }
+}
+
+/// The port of which the event says that its close was done.
+pub fn closed_port(entries: &ShortEntries, told: &Told) -> Option<Port>
+    ensures { result ≡ closed_port entries.now told.now }
+{
+    if !matches!(told.event.what, What::Done) {
+        return None;
+    }
+    let mut room = CaseRoom::new();
+    match entries.get(told.asked as usize, &mut room) {
+        Some(entry) => port_closed(&entry.step),
+        None => None,
+    }
+}
+
+/// Whether the event says that a port was closed, or opened again.
+pub(crate) fn is_turn(entries: &ShortEntries, told: &Told) -> bool
+    ensures { result ≡ is_turn entries.now told.now }
+{
+    closed_port(entries, told).is_some() || reopened_port(entries, told).is_some()
 }
 
 /// For how many values this step makes a port, or opens it again.

@@ -1,6 +1,7 @@
 //! Who is outside the hub, and since which step.
 
-ghost use Rattle.std.specs.Prelude.{◌≡◌, ◌<◌, ◌^◌, ℕ, None, length, slice_index_or, IfOk};
+ghost use Rattle.std.specs.Prelude.{◌≡◌, ◌<◌, ◌^◌, ◌&&◌, ℕ, List, None, length, not, slice_index_or, IfOk};
+ghost use Rattle.hub_story.specs.declared.told.Told.{Told as Event};
 ghost use Rattle.std.specs.List.{list_any};
 ghost use Rattle.hub_story.specs.Leavers.{is_told_to, leavers};
 ghost use Rattle.hub_story.specs.Outside.{last_of, outside};
@@ -41,23 +42,29 @@ pub fn any_told_to(pid: u8, told: &[Told]) -> bool
     told.iter().any(|told| told.event.pid.0 == pid)
 }
 
+/// Whether the process is not among these who left or wait.
+fn is_outside(left: &[Told], waiting: &[Told], pid: u8) -> bool
+    ensures { result ≡ (not (list_any (is_told_to pid) left.now) && not (list_any (is_told_to pid) waiting.now)) }
+{
+    !any_told_to(pid, left) && !any_told_to(pid, waiting)
+}
+
 /// Of so many processes those that are not among these who left or wait.
-pub(crate) fn outside_of(
+pub fn outside_of(
     alloc: Global,
     entries: &ShortEntries,
-    told: &[Told],
     left: &[Told],
     waiting: &[Told],
     procs: u8,
 ) -> Result<Vec<Outsider>, AllocError>
     requires few { length entries.now < 2 ^ 32 }
-    requires left { left.now ≡ leavers entries.now told.now }
-    ensures { IfOk result (λ all. all.items ≡ outside entries.now told.now waiting.now procs) }
+    ensures { (told : List Event) → left.now ≡ leavers entries.now told
+        → IfOk result (λ all. all.items ≡ outside entries.now told waiting.now procs) }
 {
     let last = last_steps(entries);
     let mut all = Vec::new(alloc);
     for pid in 0..procs {
-        if !any_told_to(pid, left) && !any_told_to(pid, waiting) {
+        if is_outside(left, waiting, pid) {
             all.push(Outsider {
                 pid: Pid(pid),
                 last: last[usize::from(pid)],

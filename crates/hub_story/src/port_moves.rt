@@ -32,8 +32,18 @@ pub struct PortMoves {
 }
 
 impl PortMoves {
+    /// None.
+    pub(crate) fn new(alloc: Global) -> Result<PortMoves, AllocError>
+        ensures { (es : List Entry) → IfOk result (AreMoves es []) }
+    {
+        Ok(PortMoves {
+            sent: ByPort::new(alloc)?,
+            received: ByPort::new(alloc)?,
+        })
+    }
+
     /// Takes in the next event of these entries.
-    fn note(&mut self, entries: &ShortEntries, told: &Told) -> Result<(), AllocError>
+    pub(crate) fn note(&mut self, entries: &ShortEntries, told: &Told) -> Result<(), AllocError>
         ensures { OnOk result ((before : List Event) → AreMoves entries.now before self.old
             → AreMoves entries.now (before ++ told.now ∷ []) self.new) }
     {
@@ -54,10 +64,7 @@ impl PortMoves {
     pub fn of(alloc: Global, entries: &ShortEntries, told: &[Told]) -> Result<PortMoves, AllocError>
         ensures { IfOk result (AreMoves entries.now told.now) }
     {
-        let mut moves = PortMoves {
-            sent: ByPort::new(alloc)?,
-            received: ByPort::new(alloc)?,
-        };
+        let mut moves = PortMoves::new(alloc)?;
         for told in told {
             moves.note(entries, told)?;
         }

@@ -2,19 +2,14 @@
 
 ghost use Rattle.std.specs.Prelude.{◌≡◌, ◌<◌, ◌-◌, ◌^◌, length, IfOk};
 ghost use Rattle.hub_base.specs.Head.{IsHead};
-ghost use Rattle.hub_story.specs.Ends.{ended_at};
-ghost use Rattle.hub_story.specs.Levels.{received_by, sent_by};
-ghost use Rattle.hub_story.specs.Outside.{outside};
-ghost use Rattle.hub_story.specs.Passing.{passages};
 ghost use Rattle.hub_story.specs.Stories.{IsStoryOf};
-ghost use Rattle.hub_story.specs.Waiting.{stalled_by};
 
 use crate::ends::{ends_of, stalled_by, waiting_of};
 use crate::exits::leavers_of;
 use crate::levels::level_of;
 use crate::outside::outside_of;
 use crate::passing::passages_of;
-use crate::telling::tell_all;
+use crate::walk::tell_all;
 use crate::{Level, Outsider, Passage, Told};
 use hub_base::{NoMemory, Port};
 use hub_core::ShortJournal;
@@ -50,6 +45,12 @@ pub fn story_of(alloc: Global, journal: &ShortJournal) -> Result<Story, NoMemory
 }
 
 impl Story {
+    ghost use Rattle.hub_story.specs.Ends.{ended_at};
+    ghost use Rattle.hub_story.specs.Levels.{received_by, sent_by};
+    ghost use Rattle.hub_story.specs.Outside.{outside};
+    ghost use Rattle.hub_story.specs.Passing.{passages};
+    ghost use Rattle.hub_story.specs.Waiting.{stalled_by};
+
     /// How the entry at this place ended, and by whose step; nothing while it waits, and behind the last.
     pub fn end(&self, place: usize) -> Option<Told>
         ensures { result ≡ ended_at self.now place }
@@ -105,7 +106,6 @@ impl Story {
         outside_of(
             alloc,
             journal.entries(),
-            &self.told,
             &left,
             &self.waiting,
             journal.head().procs,

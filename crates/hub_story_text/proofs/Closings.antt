@@ -4,9 +4,9 @@ use Rattle.std.specs.List.{fold}
 use Rattle.hub_base.specs.declared.value.Port.{Port}
 use Rattle.hub_base.specs.Entry.{Entry}
 use Rattle.hub_story.specs.declared.told.Told.{Told}
-use Rattle.hub_story.specs.Lives.{reopened_port}
+use Rattle.hub_story.specs.Lives.{closed_port, is_turn, reopened_port}
 use Rattle.hub_story_text.specs.declared.closers.Turns.{Turns}
-use Rattle.hub_story_text.specs.Closers.{closed_port, is_turn, no_turns, turns_on, with_turn}
+use Rattle.hub_story_text.specs.Closers.{no_turns, turns_on, with_turn}
 
 -- a fold goes by what is kept, if the rest changes nothing
 fold-kept : {A B : Type 0} (f : B → A → B) (keep : A → Bool) → ((b : B) (x : A) → keep x ≡ false → f b x ≡ b) → (b : B) (xs : List A) →

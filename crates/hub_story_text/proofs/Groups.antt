@@ -3,7 +3,7 @@ use Rattle.std.proofs.Common.{◌≡◌, ◌≢◌, ◌≤◌, ◌<◌, ◌+◌,
 use Rattle.std.proofs.Common.{Bool, true, false, List, [], ◌∷◌, ◌++◌, length, take, drop, filter, nat_lt}
 use Rattle.std.proofs.Common.{refl, ap, ◌∙◌, sym, arith, append-nil, append_assoc, take-append-drop, subst, get_or}
 use Rattle.std.specs.List.{AllByRecursion}
-use Rattle.std.proofs.lemmas.Bool.{eq-eqb, eqb-true, lt-ltb, ltb-true}
+use Rattle.std.proofs.lemmas.Bool.{eqb-true, lt-ltb, ltb-true}
 use Rattle.std.proofs.Math.Seq.{drop-cons}
 use Rattle.std.proofs.lemmas.List.{drop_all}
 use Rattle.std.proofs.lemmas.List.Elements.{filter-append}
@@ -11,21 +11,9 @@ use Rattle.hub_story.specs.declared.told.Told.{Told}
 use Rattle.hub_story.specs.Levels.{told_by}
 use Rattle.hub_story.specs.Stories.{IsFrom}
 use Rattle.hub_story.specs.Waiting.{is_stalled, stalled_by}
-use Rattle.hub_story_text.specs.StoryText.{came_by}
-
--- those of later steps only
-later : (place step : ℕ) (ts : List Told) → place < step → IsFrom step ts → came_by place ts ≡ []
-later place step [] below so = refl
-later place step (t ∷ ts) below so = by (t.by == place) refl (later place t.by ts (omega (arith, below, so.0)) so.1)
-  where
-    by : (b : Bool) → (t.by == place) ≡ b → came_by place ts ≡ [] → came_by place (t ∷ ts) ≡ []
-    by true e rest = absurd (omega (arith, eqb-true t.by place e, below, so.0))
-    by false e rest = rw e rest
-
--- those of this step only
-all-came : (place : ℕ) (ts : List Told) → AllByRecursion (λ t. t.by ≡ place) ts → came_by place ts ≡ ts
-all-came place [] all = refl
-all-came place (t ∷ ts) all = rw (eq-eqb t.by place all.0) (ap (λ l. t ∷ l) (all-came place ts all.1))
+use Rattle.hub_story.proofs.Late.{later}
+use Rattle.hub_story.proofs.Walks.{all-came}
+use Rattle.hub_story.specs.Levels.{came_by}
 
 lower : (n m : ℕ) (ts : List Told) → n ≤ m → IsFrom m ts → IsFrom n ts
 lower n m [] below so = tt
@@ -144,9 +132,6 @@ pub record IsNext (place : ℕ) (all here later : List Told) : Type 0 where
   pub came : here ≡ came_by place all
   pub told : told_by place all ++ here ≡ told_by (place + 1) all
   pub cut : IsCut (place + 1) all (told_by (place + 1) all) later
-
-pub first-cut : (all : List Told) → IsFrom 0 all → IsCut 0 all (told_by 0 all) all
-first-cut all so = rw (none-before 0 all so) (record { is = refl; before = tt; rest = so })
 
 pub next-cut : (place n : ℕ) (all rest here later : List Told) → IsCut place all (told_by place all) rest → take n rest ≡ came_by place rest →
     IsFrom (place + 1) (drop n rest) → here ≡ take n rest → later ≡ drop n rest → IsNext place all here later

@@ -8,13 +8,13 @@ use Rattle.hub_story.specs.declared.told.Told.{Told}
 use Rattle.hub_base.specs.declared.event.Outcome.{Outcome}
 use Rattle.hub_base.specs.declared.event.What.{What}
 use Rattle.hub_base.specs.declared.event.What.TheVariants.{Made, Fired, Default, Done, Parked, Stalled, Fault, Cancelled}
-use Rattle.hub_story_text.specs.declared.clock.Part.{Part}
-use Rattle.hub_story_text.specs.declared.clock.Part.TheVariants.{OwnCall, OwnStep, NoPart}
+use Rattle.hub_story.specs.declared.by_clock.Part.{Part}
+use Rattle.hub_story.specs.declared.by_clock.Part.TheVariants.{OwnCall, OwnStep, NoPart}
 use Rattle.hub_story_text.specs.declared.cells.TheConstants.{ENDS}
 use Rattle.hub_story_text.specs.declared.ends.Ending.{Ending}
 use Rattle.hub_story_text.specs.declared.ends.Ending.TheVariants.{Frees, Cancels, TimesOut, Wakes, Stalls}
 use Rattle.hub_story_text.specs.Cells.{with_cell}
-use Rattle.hub_story_text.specs.Clock.{part_of}
+use Rattle.hub_story.specs.ByClock.{part_of}
 use Rattle.hub_story_text.specs.EndsText.{ends_other, ends_so, ends_words, is_own_or_fired, with_all_ends, with_ends}
 
 no-and : (b : Bool) → (b && false) ≡ false

@@ -1,5 +1,5 @@
 -- What is written of a step: its own line, and what it did to others.
-use Rattle.std.proofs.Common.{◌≡◌, ◌<◌, ◌+◌, ℕ, Bool, true, false, List, [], ◌∷◌, ◌++◌}
+use Rattle.std.proofs.Common.{◌≡◌, ◌<◌, ◌+◌, ℕ, Bool, true, false, cond, List, [], ◌∷◌, ◌++◌}
 use Rattle.std.proofs.Common.{length, take, filter, refl, ap, ◌∙◌, sym, append-nil, get_or, add-one}
 use Rattle.std.proofs.Common.{◌≢◌, ◌-◌, drop, length-append, arith}
 use Rattle.std.specs.List.{flat_map}
@@ -10,6 +10,7 @@ use Rattle.hub_base.specs.declared.event.What.TheVariants.{Made, Fired, Default,
 use Rattle.hub_base.specs.declared.value.Port.{Port}
 use Rattle.hub_base.specs.Entry.{Entry}
 use Rattle.hub_story.specs.declared.told.Told.{Told}
+use Rattle.hub_story.specs.Partners.{is_made}
 use Rattle.hub_story_text.specs.declared.ends.Ending.{Ending}
 use Rattle.hub_story_text.specs.declared.ends.Ending.TheVariants.{Frees, Cancels, TimesOut, Wakes, Stalls}
 use Rattle.hub_story.specs.declared.last_moves.AtPort.{AtPort}
@@ -78,17 +79,34 @@ made-none es all t Stalled other = refl
 made-none es all t (Fault f) other = refl
 made-none es all t Cancelled other = refl
 
--- the ports that are told so far, and the next event
-pub ports-made : (es : List Entry) (all : List Told) (i : ℕ) (d : Told) (p : Port) (was now text : List ℕ) → i < length all →
-    was ++ flat_map (λ t. made_line es all t t.event.what) (drop i all) ≡ text → (get_or all i d).event.what ≡ Made p →
-    now ≡ was ++ port_line es all (get_or all i d) p → now ++ flat_map (λ t. made_line es all t t.event.what) (drop (i + 1) all) ≡ text
-ports-made es all i d p was now text below so made is =
-    flat-next (λ t. made_line es all t t.event.what) all i d was now text below so
-    (is ∙ ap (λ w. was ++ made_line es all (get_or all i d) w) (sym made))
+-- the ports of these events so far, and the next
+pub ports-made : (es : List Entry) (all xs : List Told) (i : ℕ) (d : Told) (p : Port) (was now text : List ℕ) → i < length xs →
+    was ++ flat_map (λ t. made_line es all t t.event.what) (drop i xs) ≡ text → (get_or xs i d).event.what ≡ Made p →
+    now ≡ was ++ port_line es all (get_or xs i d) p → now ++ flat_map (λ t. made_line es all t t.event.what) (drop (i + 1) xs) ≡ text
+ports-made es all xs i d p was now text below so made is =
+    flat-next (λ t. made_line es all t t.event.what) xs i d was now text below so
+    (is ∙ ap (λ w. was ++ made_line es all (get_or xs i d) w) (sym made))
 
-pub ports-not-made : (es : List Entry) (all : List Told) (i : ℕ) (d : Told) (was text : List ℕ) → i < length all →
-    was ++ flat_map (λ t. made_line es all t t.event.what) (drop i all) ≡ text → ((p : Port) → (get_or all i d).event.what ≢ Made p) →
-    was ++ flat_map (λ t. made_line es all t t.event.what) (drop (i + 1) all) ≡ text
-ports-not-made es all i d was text below so other =
-    flat-next (λ t. made_line es all t t.event.what) all i d was was text below so
-    (sym (append-nil was) ∙ ap (λ l. was ++ l) (sym (made-none es all (get_or all i d) (get_or all i d).event.what other)))
+pub ports-not-made : (es : List Entry) (all xs : List Told) (i : ℕ) (d : Told) (was text : List ℕ) → i < length xs →
+    was ++ flat_map (λ t. made_line es all t t.event.what) (drop i xs) ≡ text → ((p : Port) → (get_or xs i d).event.what ≢ Made p) →
+    was ++ flat_map (λ t. made_line es all t t.event.what) (drop (i + 1) xs) ≡ text
+ports-not-made es all xs i d was text below so other =
+    flat-next (λ t. made_line es all t t.event.what) xs i d was was text below so
+    (sym (append-nil was) ∙ ap (λ l. was ++ l) (sym (made-none es all (get_or xs i d) (get_or xs i d).event.what other)))
+
+-- the other events have no line
+not-made : (w : What) → is_made w ≡ false → (p : Port) → w ≢ Made p
+not-made w none p is = absurd (let h : true ≡ false = ap is_made (sym is) ∙ none in cc)
+
+pub ports-all : (es : List Entry) (all xs : List Told) →
+    flat_map (λ t. made_line es all t t.event.what) (filter (λ t. is_made t.event.what) xs) ≡ flat_map (λ t. made_line es all t t.event.what) xs
+ports-all es all [] = refl
+ports-all es all (t ∷ ts) = by (is_made t.event.what) refl (ports-all es all ts)
+  where
+    line : Told → List ℕ
+    line t = made_line es all t t.event.what
+
+    by : (b : Bool) → is_made t.event.what ≡ b → flat_map line (filter (λ t. is_made t.event.what) ts) ≡ flat_map line ts →
+        flat_map line (cond b (t ∷ filter (λ t. is_made t.event.what) ts) (filter (λ t. is_made t.event.what) ts)) ≡ line t ++ flat_map line ts
+    by true is rest = ap (λ l. line t ++ l) rest
+    by false is rest = rest ∙ ap (λ l. l ++ flat_map line ts) (sym (made-none es all t t.event.what (not-made t.event.what is)))

@@ -1,9 +1,10 @@
 -- The text of the steps, one by one.
-use Rattle.std.proofs.Common.{◌≡◌, ◌<◌, ◌+◌, ℕ, Bool, true, false, List, [], ◌∷◌}
-use Rattle.std.proofs.Common.{◌++◌, length, drop, filter, refl, ap, ◌∙◌, sym, append_assoc, get_or, codes}
+use Rattle.std.proofs.Common.{◌≡◌, ◌≤◌, ◌<◌, ◌+◌, ℕ, Bool, true, false, List, [], ◌∷◌}
+use Rattle.std.proofs.Common.{◌++◌, length, drop, filter, refl, ap, ◌∙◌, sym, append-nil, append_assoc, arith, get_or, codes}
 use Rattle.std.proofs.Common.{Option, Some, if◌then◌else◌, add-one}
 use Rattle.std.specs.List.{flat_map}
 use Rattle.std.proofs.Math.Seq.{drop-cons}
+use Rattle.std.proofs.lemmas.List.{drop_all}
 use Rattle.hub_base.specs.declared.value.Pid.{Pid}
 use Rattle.hub_base.specs.declared.value.Port.{Port}
 use Rattle.hub_base.specs.declared.case.Case.{Case}
@@ -17,9 +18,9 @@ use Rattle.hub_base.specs.Values.{cases_at}
 use Rattle.hub_story.specs.declared.last_moves.AtPort.{AtPort}
 use Rattle.hub_story.specs.declared.last_moves.LastMoves.{LastMoves}
 use Rattle.hub_story.specs.declared.window.Window.{Window}
-use Rattle.hub_story_text.specs.Clock.{to_others}
+use Rattle.hub_story.specs.ByClock.{to_others}
 use Rattle.hub_story.specs.LastMoves.{AreLast, known_at, known_of}
-use Rattle.hub_story_text.specs.StoryText.{came_by, stall_heading, steps_text, step_text, who_waits}
+use Rattle.hub_story_text.specs.StoryText.{came_by, stall_heading, step_text, steps_from, steps_text, who_waits}
 use Rattle.hub_story_text.specs.declared.paint.Paint.{Paint}
 use Rattle.hub_story_text.specs.Paint.{painted_line}
 use Rattle.hub_story_text.specs.WaiterText.{case_words, gone_words, left_words, port_words, waiter_words, waiters_words, who_words}
@@ -58,34 +59,41 @@ waiters-told nobody heading clock es until moves so ts =
 abbrev shown : Bool → Paint → Option Pid → List Entry → List Told → ℕ → Entry → List ℕ
 shown b paint clock es all place e = if b then step_text paint clock es all place e else []
 
-step-first : (paint : Paint) (w : Window) (clock : Option Pid) (es : List Entry) (all : List Told) (place : ℕ) (rest : List Entry) (d : Entry) →
-    place < length rest → steps_text paint w clock es all place (drop place rest)
-    ≡ shown (has w place) paint clock es all place (get_or rest place d) ++ steps_text paint w clock es all (place + 1) (drop (place + 1) rest)
-step-first paint w clock es all place rest d below =
-    ap (steps_text paint w clock es all place) (drop-cons rest place d below)
-    ∙ ap (λ k. shown (has w place) paint clock es all place (get_or rest place d) ++ steps_text paint w clock es all (place + 1) (drop k rest))
+step-first : (paint : Paint) (w : Window) (clock : Option Pid) (es : List Entry) (all : List Told) (place : ℕ) (d : Entry) → place < length es →
+    steps_from paint w clock es all place
+    ≡ shown (has w place) paint clock es all place (get_or es place d) ++ steps_from paint w clock es all (place + 1)
+step-first paint w clock es all place d below =
+    ap (steps_text paint w clock es all place) (drop-cons es place d below)
+    ∙ ap (λ k. shown (has w place) paint clock es all place (get_or es place d) ++ steps_text paint w clock es all (place + 1) (drop k es))
     (sym (add-one place))
 
-step-next : (b : Bool) (paint : Paint) (w : Window) (clock : Option Pid) (es : List Entry) (all : List Told) (place : ℕ) (d : Entry) (was text : List ℕ) →
-    place < length es → has w place ≡ b → was ++ steps_text paint w clock es all place (drop place es) ≡ text →
-    was ++ (shown b paint clock es all place (get_or es place d) ++ steps_text paint w clock es all (place + 1) (drop (place + 1) es)) ≡ text
-step-next b paint w clock es all place d was text below so is =
+-- what stands behind a text, where this is known of the window
+step-next : (b : Bool) (paint : Paint) (w : Window) (clock : Option Pid) (es : List Entry) (all : List Told) (place : ℕ) (d : Entry) (was : List ℕ) →
+    place < length es → has w place ≡ b →
+    was ++ (shown b paint clock es all place (get_or es place d) ++ steps_from paint w clock es all (place + 1)) ≡ was ++ steps_from paint w clock es all place
+step-next b paint w clock es all place d was below so =
     ap (λ l. was ++ l)
-    (ap (λ b. shown b paint clock es all place (get_or es place d) ++ steps_text paint w clock es all (place + 1) (drop (place + 1) es)) (sym so)
-    ∙ sym (step-first paint w clock es all place es d below)) ∙ is
+    (ap (λ b. shown b paint clock es all place (get_or es place d) ++ steps_from paint w clock es all (place + 1)) (sym so)
+    ∙ sym (step-first paint w clock es all place d below))
 
-pub step-shown : (paint : Paint) (w : Window) (clock : Option Pid) (es : List Entry) (all : List Told) (place : ℕ) (d : Entry) (was now text : List ℕ) →
-    place < length es → has w place ≡ true → was ++ steps_text paint w clock es all place (drop place es) ≡ text →
-    now ≡ was ++ step_text paint clock es all place (get_or es place d) → now ++ steps_text paint w clock es all (place + 1) (drop (place + 1) es) ≡ text
-step-shown paint w clock es all place d was now text below so is step =
-    ap (λ l. l ++ steps_text paint w clock es all (place + 1) (drop (place + 1) es)) step
-    ∙ append_assoc was (step_text paint clock es all place (get_or es place d)) (steps_text paint w clock es all (place + 1) (drop (place + 1) es))
-    ∙ step-next true paint w clock es all place d was text below so is
+pub step-shown : (paint : Paint) (w : Window) (clock : Option Pid) (es : List Entry) (all : List Told) (place : ℕ) (d : Entry) (was now : List ℕ) →
+    place < length es → has w place ≡ true → now ≡ was ++ step_text paint clock es all place (get_or es place d) →
+    now ++ steps_from paint w clock es all (place + 1) ≡ was ++ steps_from paint w clock es all place
+step-shown paint w clock es all place d was now below so step =
+    ap (λ l. l ++ steps_from paint w clock es all (place + 1)) step
+    ∙ append_assoc was (step_text paint clock es all place (get_or es place d)) (steps_from paint w clock es all (place + 1))
+    ∙ step-next true paint w clock es all place d was below so
 
-pub step-hidden : (paint : Paint) (w : Window) (clock : Option Pid) (es : List Entry) (all : List Told) (place : ℕ) (d : Entry) (was text : List ℕ) →
-    place < length es → has w place ≡ false → was ++ steps_text paint w clock es all place (drop place es) ≡ text →
-    was ++ steps_text paint w clock es all (place + 1) (drop (place + 1) es) ≡ text
-step-hidden paint w clock es all place d was text below so is = step-next false paint w clock es all place d was text below so is
+pub step-hidden : (paint : Paint) (w : Window) (clock : Option Pid) (es : List Entry) (all : List Told) (place : ℕ) (was : List ℕ) →
+    place < length es → has w place ≡ false → was ++ steps_from paint w clock es all (place + 1) ≡ was ++ steps_from paint w clock es all place
+step-hidden paint w clock [] all place was below so = absurd (omega (arith, below))
+step-hidden paint w clock (e ∷ es) all place was below so = step-next false paint w clock (e ∷ es) all place e was below so
+
+-- no step is left
+pub no-step-left : (paint : Paint) (w : Window) (clock : Option Pid) (es : List Entry) (all : List Told) (place : ℕ) (text : List ℕ) →
+    length es ≤ place → text ++ steps_from paint w clock es all place ≡ text
+no-step-left paint w clock es all place text past =
+    ap (λ l. text ++ steps_text paint w clock es all place l) (drop_all place es past) ∙ append-nil text
 
 -- ---- the text of one step, by what is looked up
 pub inside : {A : Type 0} {x y : A} → Some x ≡ Some y → x ≡ y

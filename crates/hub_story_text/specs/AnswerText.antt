@@ -12,8 +12,8 @@ use Rattle.hub_base.specs.declared.fault.Fault.{Fault}
 use Rattle.hub_base.specs.declared.fault.Fault.TheVariants as fault
 use Rattle.hub_base.specs.Value.{value_field}
 use Rattle.hub_base.specs.Faults.{fault_number}
-use Rattle.hub_story_text.specs.declared.clock.Part.{Part}
-use Rattle.hub_story_text.specs.declared.clock.Part.TheVariants.{OwnCall, OwnStep}
+use Rattle.hub_story.specs.declared.by_clock.Part.{Part}
+use Rattle.hub_story.specs.declared.by_clock.Part.TheVariants.{OwnCall, OwnStep}
 
 -- a case without its value: `s1` or `r1`
 abbrev pub case_name : Case → List ℕ

@@ -1,30 +1,16 @@
 -- Who opened a port again last, and who closed it since.
-use Rattle.std.specs.Prelude.{◌==◌, ◌||◌, Bool, false, List, Option, None, Some, is_some, slice_get, if◌then◌else◌}
+use Rattle.std.specs.Prelude.{◌==◌, Bool, false, List, None, Some, if◌then◌else◌}
 use Rattle.std.specs.List.{fold}
-use Rattle.std.specs.Option.{option_and_then, option_map_or}
+use Rattle.std.specs.Option.{option_map_or}
 use Rattle.hub_base.specs.declared.value.Port.{Port}
-use Rattle.hub_base.specs.Entry.{Entry, Step}
-use Rattle.hub_base.specs.declared.entry.Step.TheVariants.{Close}
+use Rattle.hub_base.specs.Entry.{Entry}
 use Rattle.hub_story.specs.declared.told.Told.{Told}
-use Rattle.hub_story.specs.Leavers.{is_done}
-use Rattle.hub_story.specs.Lives.{reopened_port, reopens}
+use Rattle.hub_story.specs.Lives.{closed_port, reopens}
 use Rattle.hub_story_text.specs.declared.closers.Turns.{Turns}
-
-abbrev pub port_closed : Step → Option Port
-port_closed (Close p) = Some p
-port_closed other = None
-
--- the port of which the event says that its close was done
-abbrev pub closed_port : List Entry → Told → Option Port
-closed_port es t = if is_done t.event.what then option_and_then (λ e. port_closed e.step) (slice_get es t.asked) else None
 
 -- it is this one
 abbrev pub closes : List Entry → Port → Told → Bool
 closes es p t = option_map_or (λ q. q.0 == p.0) (closed_port es t) false
-
--- the event says that a port was closed, or opened again
-abbrev pub is_turn : List Entry → Told → Bool
-is_turn es t = is_some (closed_port es t) || is_some (reopened_port es t)
 
 -- nobody has closed it, or opened it again
 abbrev pub no_turns : Turns

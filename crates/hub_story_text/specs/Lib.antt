@@ -1,8 +1,6 @@
-pub mod Clock
 pub mod Cells
 pub mod Writing
 pub mod AnswerText
-pub mod Partners
 pub mod Explained
 pub mod EndsText
 pub mod LineText
@@ -14,4 +12,6 @@ pub mod Fullest
 pub mod PortText
 pub mod Waits
 pub mod StoryText
-pub mod Packed
+pub mod OneStory
+pub mod AllBut
+pub mod Seen

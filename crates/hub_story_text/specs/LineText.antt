@@ -20,9 +20,9 @@ use Rattle.hub_story.specs.Told.{end_of}
 use Rattle.hub_story_text.specs.declared.cells.TheConstants.{STEP_WIDTH, ASKS, ANSWER, WAITED, VALUE}
 use Rattle.hub_story_text.specs.Cells.{right, with_cell}
 use Rattle.hub_story_text.specs.AnswerText.{ended_words, fault_words}
-use Rattle.hub_story_text.specs.Clock.{is_clock, part_of}
+use Rattle.hub_story.specs.ByClock.{is_clock, part_of}
 use Rattle.hub_story_text.specs.EndsText.{with_all_ends}
-use Rattle.hub_story_text.specs.Partners.{partner_of}
+use Rattle.hub_story.specs.Partners.{partner_of}
 
 -- the entry's line in the journal, without its newline
 abbrev pub asks : Entry → List ℕ

@@ -1,5 +1,5 @@
 -- Who is outside the hub in the end, but for the clock: in one line, if anybody is.
-use Rattle.std.specs.Prelude.{ℕ, ◌+◌, not, List, [], ◌∷◌, ◌++◌, codes, decimal, filter, Option, None, Some}
+use Rattle.std.specs.Prelude.{ℕ, ◌+◌, List, [], ◌∷◌, ◌++◌, codes, decimal, Option, None, Some}
 use Rattle.std.specs.List.{flat_map}
 use Rattle.hub_base.specs.declared.value.Pid.{Pid}
 use Rattle.hub_base.specs.Entry.{Entry}
@@ -7,7 +7,7 @@ use Rattle.hub_story.specs.declared.outside.Outsider.{Outsider}
 use Rattle.hub_story.specs.declared.told.Told.{Told}
 use Rattle.hub_story.specs.Outside.{outside}
 use Rattle.hub_story.specs.Waiting.{still_waiting}
-use Rattle.hub_story_text.specs.Clock.{is_clock}
+use Rattle.hub_story.specs.ByClock.{other_outsiders}
 
 abbrev pub last_words : Option ℕ → List ℕ
 last_words None = codes ", never called"
@@ -20,10 +20,6 @@ outsider_words words o = words ++ codes "P" ++ decimal o.pid.0 ++ last_words o.l
 abbrev pub outside_line : List Outsider → List ℕ
 outside_line [] = []
 outside_line (o ∷ os) = outsider_words (codes "outside the hub: ") o ++ flat_map (outsider_words (codes "; ")) os ++ codes "\n"
-
--- those that are not the clock
-abbrev pub other_outsiders : Option Pid → List Outsider → List Outsider
-other_outsiders clock os = filter (λ o. not (is_clock clock o.pid)) os
 
 -- of so many processes
 abbrev pub outside_text : Option Pid → List Entry → List Told → ℕ → List ℕ

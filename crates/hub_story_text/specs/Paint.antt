@@ -12,7 +12,7 @@ use Rattle.hub_story_text.specs.declared.paint.Paint.{Paint}
 use Rattle.hub_story_text.specs.declared.paint.Paint.TheVariants.{Plain, Colours}
 use Rattle.hub_story_text.specs.declared.paint.Colour.{Colour}
 use Rattle.hub_story_text.specs.declared.paint.Colour.TheVariants.{Red, Yellow}
-use Rattle.hub_story_text.specs.Clock.{is_clock}
+use Rattle.hub_story.specs.ByClock.{is_clock}
 use Rattle.hub_story_text.specs.LineText.{told_cells}
 
 -- what selects this

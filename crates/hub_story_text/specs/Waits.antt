@@ -1,5 +1,5 @@
 -- The calls that waited: how many, and which of them waited longest. Those of the clock are left out.
-use Rattle.std.specs.Prelude.{◌≡◌, ℕ, zero, suc, ◌+◌, ◌-◌, ◌&&◌, not, nat_lt, Bool, List, [], ◌∷◌, ◌++◌, codes, count_by}
+use Rattle.std.specs.Prelude.{◌≡◌, ℕ, zero, suc, ◌+◌, ◌-◌, ◌&&◌, not, nat_lt, Bool, List, [], ◌∷◌, ◌++◌, codes, count_by, filter}
 use Rattle.std.specs.Prelude.{decimal, length, take, slice_get, Option, None, Some, if◌then◌else◌}
 use Rattle.std.specs.List.{cons_option, flat_map, fold}
 use Rattle.std.specs.Option.{option_map_or}
@@ -7,11 +7,12 @@ use Rattle.hub_base.specs.declared.value.Pid.{Pid}
 use Rattle.hub_base.specs.Entry.{Entry}
 use Rattle.hub_laws.specs.Once.{is_call}
 use Rattle.hub_story.specs.declared.told.Told.{Told}
+use Rattle.hub_story.specs.Outlines.{ends_late}
 use Rattle.hub_story.specs.Told.{end_of}
 use Rattle.hub_story_text.specs.declared.waits.TheConstants.{MOST_LONGEST}
 use Rattle.hub_story_text.specs.declared.waits.Wait.{Wait}
 use Rattle.hub_story_text.specs.declared.waits.Waits.{Waits}
-use Rattle.hub_story_text.specs.Clock.{is_clock, is_by_clock}
+use Rattle.hub_story.specs.ByClock.{is_clock, is_by_clock}
 use Rattle.hub_story_text.specs.LineText.{told_line}
 
 -- the entry is a call, and not the clock's
@@ -49,6 +50,10 @@ longest ws = take MOST_LONGEST (fold (λ ranked w. with_wait w ranked) [] ws)
 pub record AreWaits (ws : List Wait) (told : Waits) : Type 0 where
   pub count : told.count ≡ length ws
   pub longest : told.longest.items ≡ longest ws
+
+-- what is known of its end is what it was told by a later step, if anything
+abbrev pub EndsLate : List Told → Wait → Type 0
+EndsLate all w = end_of (filter ends_late all) w.place ≡ end_of all w.place
 
 -- the line of the step at this place, again
 abbrev pub line_at : Option Pid → List Entry → List Told → Wait → List ℕ

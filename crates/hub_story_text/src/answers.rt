@@ -4,9 +4,9 @@ ghost use Rattle.std.specs.Prelude.{◌≡◌, ◌++◌, codes, decimal, OnOk};
 ghost use Rattle.hub_base.specs.Value.{value_field};
 ghost use Rattle.hub_story_text.specs.AnswerText.{answer_words, case_name, ended_words, fault_words, fired_name, outcome_words};
 
-use crate::clock::Part;
 use crate::numbers::put_number;
 use hub_base::{Case, Fault, NoMemory, Outcome, Value, What};
+use hub_story::Part;
 use hub_text::write_value;
 use std::alloc::AllocError;
 

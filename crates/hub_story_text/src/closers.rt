@@ -1,13 +1,12 @@
 //! Who opened a port again last, and who closed it since.
 
-ghost use Rattle.std.specs.Prelude.{◌≡◌, ◌==◌, IfOk, false, filter};
+ghost use Rattle.std.specs.Prelude.{◌≡◌, ◌==◌, false};
 ghost use Rattle.std.specs.Option.{option_map_or};
-ghost use Rattle.hub_story_text.specs.Closers.{closed_port, is_turn, port_closed, turns_on, with_turn};
+ghost use Rattle.hub_story_text.specs.Closers.{turns_on, with_turn};
 
-use hub_base::{Port, Step, StepRef, What};
-use hub_core::{CaseRoom, ShortEntries};
-use hub_story::{Told, reopened_port};
-use std::alloc::{AllocError, Global};
+use hub_base::Port;
+use hub_core::ShortEntries;
+use hub_story::{Told, closed_port, reopened_port};
 
 /// What says so of a port.
 #[derive(Clone, Copy)]
@@ -16,54 +15,6 @@ pub(crate) struct Turns {
     pub reopened: Option<Told>,
     /// That it was closed since.
     pub closed: Option<Told>,
-}
-
-/// The port that the step closes.
-fn port_closed(step: &StepRef<'_>) -> Option<Port>
-    ensures { result ≡ port_closed step.now }
-{
-    match step {
-        Step::Close(port) => Some(*port),
-        _ => None,
-    }
-}
-
-/// The port of which the event says that its close was done.
-fn closed_port(entries: &ShortEntries, told: &Told) -> Option<Port>
-    ensures { result ≡ closed_port entries.now told.now }
-{
-    if !matches!(told.event.what, What::Done) {
-        return None;
-    }
-    let mut room = CaseRoom::new();
-    match entries.get(told.asked as usize, &mut room) {
-        Some(entry) => port_closed(&entry.step),
-        None => None,
-    }
-}
-
-/// Whether the event says that a port was closed, or opened again.
-fn is_turn(entries: &ShortEntries, told: &Told) -> bool
-    ensures { result ≡ is_turn entries.now told.now }
-{
-    closed_port(entries, told).is_some() || reopened_port(entries, told).is_some()
-}
-
-/// The events that say so, in order.
-pub(crate) fn turns_of(
-    alloc: Global,
-    entries: &ShortEntries,
-    told: &[Told],
-) -> Result<Vec<Told>, AllocError>
-    ensures { IfOk result (λ turns. turns.items ≡ filter (is_turn entries.now) told.now) }
-{
-    let mut turns = Vec::new(alloc);
-    for told in told {
-        if is_turn(entries, told) {
-            turns.push(*told)?;
-        }
-    }
-    Ok(turns)
 }
 
 /// Whether a port was found, and is this one.

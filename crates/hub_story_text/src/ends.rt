@@ -7,11 +7,10 @@ ghost use Rattle.hub_story_text.specs.EndsText.{ending_word, ends_other, ends_so
 ghost use Rattle.hub_story_text.specs.Writing.{LineBecomes};
 
 use crate::cells::{ENDS, close_cell, open_cell};
-use crate::clock::{Part, part_of};
 use crate::numbers::{number_of, put_number};
 use hub_base::{Pid, What};
 use hub_core::ShortEntries;
-use hub_story::Told;
+use hub_story::{Part, Told, part_of};
 use std::alloc::AllocError;
 
 /// How a step ends a call that waits.

@@ -3,30 +3,25 @@
 #![tactic(auto)]
 
 mod answers;
-mod block;
 mod cells;
-mod clock;
 mod closers;
 mod ends;
 mod explained;
 mod fullest;
+mod laws;
 mod lines;
 mod numbers;
 mod outside;
-mod packed_text;
 mod paint;
-mod partners;
 mod ports;
+mod seen;
 mod steps;
 mod text;
 mod waiters;
 mod waits;
 
-pub use block::{Block, MOST_BLOCK};
-pub use clock::clock_in;
 pub use hub_story::Window;
-pub use packed_text::PackedText;
+pub use laws::one_story_spelling;
 pub use paint::Paint;
-pub use partners::all_partners;
 pub use steps::{count_of, stalled_of};
-pub use text::{push_story, story_text};
+pub use text::write_story;

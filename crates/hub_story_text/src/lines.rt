@@ -9,12 +9,11 @@ ghost use Rattle.hub_story_text.specs.LineText.{step_words, value_words, waited_
 
 use crate::answers::{fault_words, put_answer, put_ended};
 use crate::cells::{ANSWER, ASKS, VALUE, WAITED, close_cell, open_cell, put_right};
-use crate::clock::{Part, is_clock, part_of};
 use crate::ends::ends_cells;
 use crate::numbers::{number_of, put_number};
 use hub_base::{Case, Edition, EntryRef, NoMemory, Outcome, Pid, Port, What};
 use hub_core::ShortEntries;
-use hub_story::Told;
+use hub_story::{Part, Told, is_clock, part_of};
 use hub_text::write_entry;
 use std::alloc::AllocError;
 

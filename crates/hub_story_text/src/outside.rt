@@ -1,16 +1,16 @@
 //! Who is outside the hub in the end.
 
-ghost use Rattle.std.specs.Prelude.{◌≡◌, ◌++◌, IfOk, OnOk, codes};
+ghost use Rattle.std.specs.Prelude.{◌≡◌, ◌++◌, OnOk, codes};
 ghost use Rattle.std.specs.List.{flat_map};
+ghost use Rattle.hub_story.specs.Leavers.{leavers};
+ghost use Rattle.hub_story.specs.Waiting.{still_waiting};
 ghost use Rattle.hub_story_text.specs.Explained.{IsExplained, entries_of, told_of};
-ghost use Rattle.hub_story_text.specs.OutsideText.{last_words, other_outsiders, outside_line, outside_text, outsider_words};
+ghost use Rattle.hub_story_text.specs.OutsideText.{last_words, outside_line, outside_text, outsider_words};
 
-use crate::clock::is_clock;
 use crate::explained::Explained;
 use crate::numbers::{number_of, put_number};
-use hub_base::Pid;
-use hub_story::Outsider;
-use std::alloc::{AllocError, Global};
+use hub_story::{Outsider, Told, other_outsiders, outside_of};
+use std::alloc::AllocError;
 
 /// Appends a last step.
 fn put_last(out: &mut Vec<u8>, last: Option<u32>) -> Result<(), AllocError>
@@ -53,32 +53,24 @@ fn put_line(out: &mut Vec<u8>, outside: &[Outsider]) -> Result<(), AllocError>
     out.extend_from_slice(b"\n")
 }
 
-/// Those of these processes that are not the clock.
-fn others_of(
-    alloc: Global,
-    clock: Option<Pid>,
-    outside: &[Outsider],
-) -> Result<Vec<Outsider>, AllocError>
-    ensures { IfOk result (λ others. others.items ≡ other_outsiders clock outside.now) }
-{
-    let mut others = Vec::new(alloc);
-    for outsider in outside {
-        if !is_clock(clock, outsider.pid) {
-            others.push(*outsider)?;
-        }
-    }
-    Ok(others)
-}
-
-/// Appends who is outside the hub in the end, but for the clock.
-pub(crate) fn put_outside(out: &mut Vec<u8>, explained: &Explained) -> Result<(), AllocError>
-    requires { IsExplained explained.now }
+/// Appends who is outside the hub in the end, but for the clock, where these left and these wait.
+pub(crate) fn put_outside(
+    out: &mut Vec<u8>,
+    explained: &Explained,
+    left: &[Told],
+    waiting: &[Told],
+) -> Result<(), AllocError>
+    requires explained { IsExplained explained.now }
+    requires left { left.now ≡ leavers (entries_of explained.now) (told_of explained.now) }
+    requires waiting { waiting.now ≡ still_waiting (told_of explained.now) }
     ensures { OnOk result (out.new.items ≡ out.old.items
         ++ outside_text explained.now.clock (entries_of explained.now) (told_of explained.now)
         explained.now.journal.now.head.procs) }
 {
     let alloc = *out.allocator();
-    let outside = explained.story.outside(alloc, explained.journal)?;
-    let others = others_of(alloc, explained.clock, &outside)?;
+    let journal = explained.journal;
+    let procs = journal.head().procs;
+    let outside = outside_of(alloc, journal.entries(), left, waiting, procs)?;
+    let others = other_outsiders(alloc, explained.clock, &outside)?;
     put_line(out, &others)
 }

@@ -1,20 +1,20 @@
 //! What each port that was made carried, and by whom it was made, opened again and closed.
 
-ghost use Rattle.std.specs.Prelude.{◌≡◌, ◌++◌, filter, length, slice_get, OnOk, []};
-ghost use Rattle.std.specs.List.{flat_map};
+ghost use Rattle.std.specs.Prelude.{◌≡◌, ◌++◌, filter, slice_get, OnOk, []};
 ghost use Rattle.std.specs.Option.{option_map_or};
-ghost use Rattle.hub_story.specs.Levels.{told_by};
+ghost use Rattle.hub_story.specs.Lives.{is_turn};
+ghost use Rattle.hub_story.specs.Partners.{is_made};
 ghost use Rattle.hub_story.specs.PortMoves.{AreMoves};
-ghost use Rattle.hub_story.specs.Stories.{IsFrom};
-ghost use Rattle.hub_story_text.specs.Closers.{is_turn};
-ghost use Rattle.hub_story_text.specs.PortText.{by_words, cap_words, counts_words, made_line, most_words, opened_at, port_line, turn_words};
+ghost use Rattle.hub_story.specs.Told.{told};
+ghost use Rattle.hub_story_text.specs.PortText.{by_words, cap_words, counts_words, most_words, opened_at, port_line, turn_words};
+ghost use Rattle.hub_story_text.specs.StoryText.{ports_text};
 
-use crate::closers::{Turns, turns_of, turns_on};
+use crate::closers::{Turns, turns_on};
 use crate::fullest::{Fullest, fullest_on};
 use crate::numbers::{number_of, put_number};
 use hub_base::{Port, Step, What};
 use hub_core::{CaseRoom, ShortJournal};
-use hub_story::{Level, PortMoves, Story, Told};
+use hub_story::{Level, PortMoves, Told};
 use std::alloc::AllocError;
 
 /// Appends the capacity with which the entry at this place made a port, or opened it again.
@@ -89,25 +89,22 @@ fn opened_at(made: &Told, reopened: Option<Told>) -> u32
 fn put_port(
     out: &mut Vec<u8>,
     journal: &ShortJournal,
-    story: &Story,
     moves: &PortMoves,
     turns: &[Told],
-    told: &Told,
+    made: &Told,
     port: Port,
 ) -> Result<(), AllocError>
-    requires whole { told_by (length journal.now.entries) story.now.told.items ≡ story.now.told.items }
-    requires moves { AreMoves journal.now.entries story.now.told.items moves.now }
-    requires order { IsFrom 0 story.now.told.items }
-    requires turns { turns.now ≡ filter (is_turn journal.now.entries) story.now.told.items }
+    requires moves { AreMoves journal.now.entries (told journal.now.head journal.now.entries) moves.now }
+    requires turns { turns.now ≡ filter (is_turn journal.now.entries) (told journal.now.head journal.now.entries) }
     ensures { OnOk result (out.new.items ≡
-        out.old.items ++ port_line journal.now.entries story.now.told.items told.now port) }
+        out.old.items ++ port_line journal.now.entries (told journal.now.head journal.now.entries) made.now port) }
 {
     let Turns { reopened, closed } = turns_on(journal.entries(), turns, port);
     put_number(out, b"port ", port.0.into())?;
-    put_cap(out, journal, opened_at(told, reopened))?;
+    put_cap(out, journal, opened_at(made, reopened))?;
     put_counts(out, moves.level(port))?;
     put_most(out, fullest_on(*out.allocator(), moves, port)?)?;
-    put_by(out, b" made by P", told)?;
+    put_by(out, b" made by P", made)?;
     put_turn(out, b" reopened by P", reopened)?;
     put_turn(out, b" closed by P", closed)?;
     out.extend_from_slice(b"\n")?;
@@ -118,19 +115,19 @@ fn put_port(
 pub(crate) fn put_ports(
     out: &mut Vec<u8>,
     journal: &ShortJournal,
-    story: &Story,
     moves: &PortMoves,
+    made: &[Told],
+    turns: &[Told],
 ) -> Result<(), AllocError>
-    requires whole { told_by (length journal.now.entries) story.now.told.items ≡ story.now.told.items }
-    requires moves { AreMoves journal.now.entries story.now.told.items moves.now }
-    requires order { IsFrom 0 story.now.told.items }
-    ensures { OnOk result (out.new.items ≡ out.old.items
-        ++ flat_map (λ t. made_line journal.now.entries story.now.told.items t t.event.what) story.now.told.items) }
+    requires moves { AreMoves journal.now.entries (told journal.now.head journal.now.entries) moves.now }
+    requires made { made.now ≡ filter (λ t. is_made t.event.what) (told journal.now.head journal.now.entries) }
+    requires turns { turns.now ≡ filter (is_turn journal.now.entries) (told journal.now.head journal.now.entries) }
+    ensures { OnOk result (out.new.items ≡
+        out.old.items ++ ports_text journal.now.entries (told journal.now.head journal.now.entries)) }
 {
-    let turns = turns_of(*out.allocator(), journal.entries(), &story.told)?;
-    for told in &story.told {
-        if let What::Made(port) = told.event.what {
-            put_port(out, journal, story, moves, &turns, told, port)?;
+    for made in made {
+        if let What::Made(port) = made.event.what {
+            put_port(out, journal, moves, turns, made, port)?;
         }
     }
     Ok(())

@@ -1,24 +1,33 @@
 //! The lines of the steps.
 
-ghost use Rattle.std.specs.Prelude.{◌≡◌, ◌≤◌, ◌<◌, ◌+◌, ◌++◌, [], drop, filter, length, take, IfOk, OnOk};
+ghost use Rattle.std.specs.Prelude.{◌≡◌, ◌≤◌, ◌<◌, ◌+◌, ◌++◌, [], Some, drop, filter, length, slice_get, take, IfErr, IfOk, OnErr, OnOk};
+ghost use Rattle.hub_replay.specs.Devices.{AppendsBeginning, Failed};
+ghost use Rattle.hub_replay.specs.ViewFaults.{Fails};
+ghost use Rattle.hub_story.specs.ByClock.{to_others};
+ghost use Rattle.hub_story.specs.LastMoves.{AreLast, known_at};
 ghost use Rattle.hub_story.specs.Levels.{told_by};
 ghost use Rattle.hub_story.specs.Stories.{IsFrom};
+ghost use Rattle.hub_story.specs.Told.{end_of};
 ghost use Rattle.hub_story.specs.Waiting.{is_stalled};
-ghost use Rattle.hub_story_text.specs.Clock.{to_others};
+ghost use Rattle.hub_story.specs.Walks.{IsAt};
+ghost use Rattle.hub_story_text.specs.AllBut.{AppendsAllBut};
 ghost use Rattle.hub_story_text.specs.Explained.{IsExplained, entries_of, told_of};
-ghost use Rattle.hub_story.specs.LastMoves.{AreLast, IsWhole, known_at};
-ghost use Rattle.hub_story_text.specs.StoryText.{came_by, stall_heading, steps_text};
+ghost use Rattle.hub_story_text.specs.Seen.{IsSeen};
+ghost use Rattle.hub_story_text.specs.StoryText.{came_by, stall_heading, steps_from};
 ghost use Rattle.hub_story_text.specs.WaiterText.{waiters_words};
 
 use crate::Window;
-use crate::clock::to_others;
 use crate::explained::{Explained, put_painted_line};
-use crate::packed_text::PackedText;
+use crate::seen::Seen;
 use crate::waiters::put_waiters;
-use hub_base::NoMemory;
+use hub_base::{EntryRef, NoMemory};
 use hub_core::CaseRoom;
-use hub_story::{LastMoves, Told};
+use hub_replay::{Sink, ViewFault, WriteFailed, write_whole};
+use hub_story::{LastMoves, Told, Walk, to_others};
 use std::alloc::{AllocError, Global};
+
+/// So many bytes of lines are written at once.
+const MANY: usize = 65_536;
 
 /// What stands above those whom a step stalled.
 const STALL_HEADING: &[u8] = b"        stall: everyone who is left waits\n";
@@ -75,37 +84,84 @@ fn put_stalled(
     Ok(())
 }
 
-/// Appends the lines of the steps that the window has, below each those whom it stalled, and takes in all that is told.
-pub(crate) fn put_steps(
-    out: &mut PackedText,
-    moves: &mut LastMoves,
+/// Appends the line of this entry, which stands at this place, ended so, and by whose step these came, and those whom it stalled, where the window has it.
+fn put_step(
+    out: &mut Vec<u8>,
+    moves: &LastMoves,
     explained: &Explained,
     window: Window,
+    place: usize,
+    entry: &EntryRef<'_>,
+    end: Option<Told>,
+    came: &[Told],
 ) -> Result<(), NoMemory>
     requires explained { IsExplained explained.now }
-    requires none { AreLast (entries_of explained.now) [] moves.old }
-    requires whole { IsWhole moves.old }
-    ensures text { OnOk result (out.new.items ≡ out.old.items
-        ++ steps_text explained.now.paint window explained.now.clock (entries_of explained.now) (told_of explained.now)
-        0 (entries_of explained.now)) }
-    ensures last { OnOk result (AreLast (entries_of explained.now)
-        (told_by (length (entries_of explained.now)) (told_of explained.now)) moves.new) }
+    requires within { place < length (entries_of explained.now) }
+    requires entry { slice_get (entries_of explained.now) place ≡ Some entry.now }
+    requires end { end ≡ end_of (told_of explained.now) place }
+    requires came { came.now ≡ came_by place (told_of explained.now) }
+    requires last { AreLast (entries_of explained.now)
+        (told_by (place + 1) (told_of explained.now)) moves.now }
+    ensures { OnOk result (out.new.items
+        ++ steps_from explained.now.paint window explained.now.clock (entries_of explained.now) (told_of explained.now) (place + 1)
+        ≡ out.old.items
+        ++ steps_from explained.now.paint window explained.now.clock (entries_of explained.now) (told_of explained.now) place) }
 {
-    let entries = explained.journal.entries();
-    let mut line = Vec::new(*moves.receivers.left.allocator());
+    if !window.has(place as u32) {
+        return Ok(());
+    }
+    put_painted_line(out, explained, place as u32, entry, end, came)?;
+    put_stalled(out, explained, moves, came)
+}
+
+/// Writes lines where they are many, and lets them go.
+fn write_many<W: Sink>(output: &mut W, lines: &mut Vec<u8>) -> Result<(), WriteFailed>
+    ensures whole { OnOk result
+        (AppendsAllBut (W.contents output.old) (W.contents output.new) lines.old.items lines.new.items) }
+    ensures beginning { OnErr result
+        (AppendsBeginning (W.contents output.old) (W.contents output.new) lines.old.items) }
+    ensures err { OnErr result (Failed (W.failures output.old) (W.failures output.new)) }
+    ensures ok { OnOk result (W.failures output.new ≡ W.failures output.old) }
+{
+    if lines.len() < MANY {
+        return Ok(());
+    }
+    write_whole(output, lines)?;
+    lines.clear();
+    Ok(())
+}
+
+/// Writes `text`, and behind it the lines of the steps that the window has, below each those whom it stalled; the last of them are left
+/// in `text`. Walks along the journal, and takes in all of its steps.
+pub(crate) fn write_steps<W: Sink>(
+    output: &mut W,
+    text: &mut Vec<u8>,
+    walk: &mut Walk,
+    seen: &mut Seen,
+    explained: &Explained,
+    window: Window,
+) -> Result<(), ViewFault>
+    requires explained { IsExplained explained.now }
+    requires at { IsAt explained.now.journal.now 0 walk.old }
+    requires none { IsSeen explained.now 0 seen.old }
+    ensures whole { OnOk result (AppendsAllBut (W.contents output.old) (W.contents output.new) (text.old.items
+        ++ steps_from explained.now.paint window explained.now.clock (entries_of explained.now) (told_of explained.now) 0)
+        text.new.items) }
+    ensures beginning { OnErr result (AppendsBeginning (W.contents output.old) (W.contents output.new) (text.old.items
+        ++ steps_from explained.now.paint window explained.now.clock (entries_of explained.now) (told_of explained.now) 0)) }
+    ensures err { IfErr result (Fails (W.failures output.old) (W.failures output.new)) }
+    ensures ok { OnOk result (W.failures output.new ≡ W.failures output.old) }
+    ensures seen { OnOk result (IsSeen explained.now (length (entries_of explained.now)) seen.new) }
+{
     let mut room = CaseRoom::new();
-    let mut rest: &[Told] = &explained.story.told;
-    for place in 0..entries.len() {
-        let (came, later) = rest.split_at(count_of(rest, place as u32));
-        moves.note_all(entries, came)?;
-        let entry = entries.entry(place, &mut room);
-        if window.has(place as u32) {
-            line.clear();
-            put_painted_line(&mut line, explained, place as u32, &entry, came)?;
-            put_stalled(&mut line, explained, moves, came)?;
-            out.push(&line)?;
-        }
-        rest = later;
+    for place in 0..explained.journal.entries().len() {
+        let entry = walk.step(explained.journal, place, &mut room)?;
+        let came = walk.came();
+        let end = seen.note(explained, place, came)?;
+        put_step(
+            text, &seen.last, explained, window, place, &entry, end, came,
+        )?;
+        write_many(output, text)?;
     }
     Ok(())
 }

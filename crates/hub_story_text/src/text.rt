@@ -1,26 +1,33 @@
 //! The whole text.
 
-ghost use Rattle.std.specs.Prelude.{◌≡◌, ◌<◌, ◌-◌, ◌^◌, ◌++◌, [], length, IfOk, OnOk};
-ghost use Rattle.hub_story.specs.Stories.{IsStoryOf};
-ghost use Rattle.hub_story_text.specs.Explained.{IsExplained, entries_of, told_of};
-ghost use Rattle.hub_story.specs.LastMoves.{AreLast, IsWhole};
-ghost use Rattle.hub_story_text.specs.Partners.{AreIn, ways};
-ghost use Rattle.hub_story_text.specs.StoryText.{painted_text, ports_text, story_text, text_with};
+ghost use Rattle.std.specs.Prelude.{◌≡◌, ◌<◌, ◌-◌, ◌^◌, ◌++◌, filter, length, IfErr, IfOk, OnErr, OnOk};
+ghost use Rattle.std.specs.Io.KnownBytes.{Appends};
+ghost use Rattle.hub_replay.specs.Devices.{AppendsBeginning};
+ghost use Rattle.hub_replay.specs.ViewFaults.{Fails};
+ghost use Rattle.hub_base.specs.Head.{IsHead};
+ghost use Rattle.hub_story.specs.LateEnds.{AreLate};
+ghost use Rattle.hub_story.specs.Lives.{is_turn};
+ghost use Rattle.hub_story.specs.Partners.{AreIn, is_made, ways};
+ghost use Rattle.hub_story.specs.PortMoves.{AreMoves};
+ghost use Rattle.hub_story.specs.Told.{told};
+ghost use Rattle.hub_story.specs.Walks.{IsAt};
+ghost use Rattle.hub_story_text.specs.Explained.{IsExplained, entries_of, head_of, told_of};
+ghost use Rattle.hub_story_text.specs.Seen.{IsSeen};
+ghost use Rattle.hub_story_text.specs.StoryText.{end_text, painted_text, ports_text, text_with};
 
 use crate::Window;
-use crate::clock::{clock_in, to_others};
 use crate::explained::Explained;
 use crate::outside::put_outside;
-use crate::packed_text::PackedText;
 use crate::paint::Paint;
-use crate::partners::partners_of;
 use crate::ports::put_ports;
-use crate::steps::put_steps;
+use crate::seen::Seen;
+use crate::steps::write_steps;
 use crate::waiters::put_waiters;
 use crate::waits::put_waits;
 use hub_base::NoMemory;
 use hub_core::ShortJournal;
-use hub_story::{LastMoves, PortMoves, Story};
+use hub_replay::{Sink, ViewFault, write_whole};
+use hub_story::{LateEnds, Outline, PortMoves, Told, Walk, clock_in, partners_of, to_others};
 use std::alloc::Global;
 
 const HEADING: &[u8] =
@@ -30,130 +37,154 @@ const END_HEADING: &[u8] = b"in the end these wait\n";
 
 const END_NOBODY: &[u8] = b"in the end no call waits\n";
 
-/// What is known of the values of a journal before its steps are told.
-struct Carried {
+/// What is known of a journal before its steps are told.
+struct Known {
+    /// How calls ended by later steps than their own.
+    ends: LateEnds,
     /// For each entry the other one of the passage in which it stands.
     partners: Vec<Option<u32>>,
     /// The lines of the ports.
     ports: Vec<u8>,
 }
 
-/// What is known of the values of a journal. The list of all moves is let go with it, before the text takes as much memory.
-fn carried_of(alloc: Global, journal: &ShortJournal, story: &Story) -> Result<Carried, NoMemory>
-    requires story { IsStoryOf journal.now story.now }
-    ensures partners { IfOk result (λ carried.
-        AreIn (ways journal.now.entries story.now.told.items) (length journal.now.entries) carried.partners.items) }
-    ensures ports { IfOk result (λ carried.
-        carried.ports.items ≡ ports_text journal.now.entries story.now.told.items) }
+/// What is known of the values of a journal: of each entry the other one of the passage in which it stands. Appends the lines of the
+/// ports. The list of all moves is let go.
+fn carried_of(
+    ports: &mut Vec<u8>,
+    journal: &ShortJournal,
+    moves: PortMoves,
+    made: &[Told],
+    turns: &[Told],
+) -> Result<Vec<Option<u32>>, NoMemory>
+    requires moves { AreMoves journal.now.entries (told journal.now.head journal.now.entries) moves }
+    requires made { made.now ≡ filter (λ t. is_made t.event.what) (told journal.now.head journal.now.entries) }
+    requires turns { turns.now ≡ filter (is_turn journal.now.entries) (told journal.now.head journal.now.entries) }
+    ensures partners { IfOk result (λ partners. AreIn (ways journal.now.entries (told journal.now.head journal.now.entries))
+        (length journal.now.entries) partners.items) }
+    ensures ports { OnOk result (ports.new.items ≡
+        ports.old.items ++ ports_text journal.now.entries (told journal.now.head journal.now.entries)) }
 {
-    let moves = PortMoves::of(alloc, journal.entries(), &story.told)?;
-    let mut ports = Vec::new(alloc);
-    put_ports(&mut ports, journal, story, &moves)?;
-    let partners = partners_of(alloc, journal, story, &moves)?;
-    Ok(Carried { partners, ports })
+    put_ports(ports, journal, &moves, made, turns)?;
+    let partners = partners_of(*ports.allocator(), journal.entries(), &moves, made.len())?;
+    Ok(partners)
 }
 
-/// Appends the story of a journal, by what is known of its values; `last` comes to tell who moved one last, and `ports` are the
-/// lines of the ports.
-fn put_story(
-    out: &mut PackedText,
-    last: &mut LastMoves,
+/// What is known of a journal, by one walk.
+fn known_of(alloc: Global, journal: &ShortJournal) -> Result<Known, NoMemory>
+    requires head { IsHead journal.now.head }
+    requires few { length journal.now.entries < 2 ^ 32 - 1 }
+    ensures ends { IfOk result (λ known.
+        AreLate (told journal.now.head journal.now.entries) (length journal.now.entries) known.ends) }
+    ensures partners { IfOk result (λ known. AreIn (ways journal.now.entries (told journal.now.head journal.now.entries))
+        (length journal.now.entries) known.partners.items) }
+    ensures ports { IfOk result (λ known.
+        known.ports.items ≡ ports_text journal.now.entries (told journal.now.head journal.now.entries)) }
+{
+    let Outline {
+        moves,
+        made,
+        turns,
+        ended,
+    } = Outline::of(alloc, journal)?;
+    let mut ports = Vec::new(alloc);
+    let partners = carried_of(&mut ports, journal, moves, &made, &turns)?;
+    let ends = LateEnds::of(alloc, ended, journal.entries().len())?;
+    Ok(Known {
+        ends,
+        partners,
+        ports,
+    })
+}
+
+/// Appends what stands behind the lines of steps, all of which were seen; `ports` are the lines of the ports.
+fn put_end(
+    out: &mut Vec<u8>,
+    seen: &Seen,
     explained: &Explained,
-    ports: Vec<u8>,
-    window: Window,
+    ports: &[u8],
 ) -> Result<(), NoMemory>
     requires explained { IsExplained explained.now }
-    requires ports { ports.items ≡ ports_text (entries_of explained.now) (told_of explained.now) }
-    requires none { AreLast (entries_of explained.now) [] last.old }
-    requires whole { IsWhole last.old }
-    ensures { OnOk result (out.new.items ≡
-        out.old.items
-        ++ text_with explained.now.clock explained.now.paint window explained.now.journal.now.head
-        (entries_of explained.now) (told_of explained.now)) }
+    requires ports { ports.now ≡ ports_text (entries_of explained.now) (told_of explained.now) }
+    requires seen { IsSeen explained.now (length (entries_of explained.now)) seen.now }
+    ensures { OnOk result (out.new.items ≡ out.old.items
+        ++ end_text explained.now.clock (head_of explained.now) (entries_of explained.now) (told_of explained.now)) }
 {
-    out.push(HEADING)?;
-    put_steps(out, last, explained, window)?;
-    let mut rest = ports;
-    put_waits(&mut rest, explained)?;
-    let others = to_others(
-        *last.receivers.left.allocator(),
-        explained.clock,
-        &explained.story.waiting,
-    )?;
-    put_waiters(
-        &mut rest,
-        END_NOBODY,
-        END_HEADING,
-        explained.journal.entries(),
-        last,
-        &others,
-    )?;
-    put_outside(&mut rest, explained)?;
-    out.push(&rest)?;
+    out.extend_from_slice(ports)?;
+    put_waits(out, explained, &seen.waits)?;
+    let others = to_others(*out.allocator(), explained.clock, &seen.waiting)?;
+    let entries = explained.journal.entries();
+    put_waiters(out, END_NOBODY, END_HEADING, entries, &seen.last, &others)?;
+    let left = &seen.last.receivers.left;
+    put_outside(out, explained, left, &seen.waiting)?;
     Ok(())
 }
 
-/// Appends the story of a journal, with the lines of steps shown so.
-fn push_painted(
-    out: &mut PackedText,
+/// Writes the story of a journal, by what is known of it, on a walk from its beginning; `ports` are the lines of the ports.
+fn write_explained<W: Sink>(
+    output: &mut W,
+    walk: &mut Walk,
+    seen: &mut Seen,
+    explained: &Explained,
+    ports: &[u8],
+    window: Window,
+) -> Result<(), ViewFault>
+    requires explained { IsExplained explained.now }
+    requires ports { ports.now ≡ ports_text (entries_of explained.now) (told_of explained.now) }
+    requires at { IsAt explained.now.journal.now 0 walk.old }
+    requires none { IsSeen explained.now 0 seen.old }
+    ensures whole { OnOk result (Appends (W.contents output.old) (W.contents output.new)
+        (text_with explained.now.clock explained.now.paint window (head_of explained.now)
+        (entries_of explained.now) (told_of explained.now))) }
+    ensures beginning { OnErr result (AppendsBeginning (W.contents output.old) (W.contents output.new)
+        (text_with explained.now.clock explained.now.paint window (head_of explained.now)
+        (entries_of explained.now) (told_of explained.now))) }
+    ensures err { IfErr result (Fails (W.failures output.old) (W.failures output.new)) }
+    ensures ok { OnOk result (W.failures output.new ≡ W.failures output.old) }
+{
+    let mut text = Vec::new(*seen.waiting.allocator());
+    text.extend_from_slice(HEADING)?;
+    write_steps(output, &mut text, walk, seen, explained, window)?;
+    put_end(&mut text, seen, explained, ports)?;
+    write_whole(output, &text)?;
+    Ok(())
+}
+
+/// Writes the story of a journal of 1 to `MOST_PROCS` processes as text: a line for each step that the window has, with those whom it
+/// stalled below it; then a line for each port that was made, which calls waited longest, and who waits or is outside in the end. Steps
+/// and the numbers of entries are counted from 1. The lines of steps are in colours if these are asked for. Calls that the journal's
+/// clock cancels are told to have timed out. The journal is walked along twice: once for what must be known before the first line, and
+/// then line by line. Lines are written as soon as they are many, and let go.
+pub fn write_story<W: Sink>(
     alloc: Global,
     journal: &ShortJournal,
-    story: &Story,
     window: Window,
     paint: Paint,
-) -> Result<(), NoMemory>
-    requires story { IsStoryOf journal.now story.now }
+    output: &mut W,
+) -> Result<(), ViewFault>
+    requires head { IsHead journal.now.head }
     requires few { length journal.now.entries < 2 ^ 32 - 1 }
-    ensures { OnOk result (
-        out.new.items ≡ out.old.items
-        ++ painted_text paint window journal.now.head journal.now.entries story.now.told.items) }
+    ensures whole { OnOk result (Appends (W.contents output.old) (W.contents output.new)
+        (painted_text paint window journal.now.head journal.now.entries (told journal.now.head journal.now.entries))) }
+    ensures beginning { OnErr result (AppendsBeginning (W.contents output.old) (W.contents output.new)
+        (painted_text paint window journal.now.head journal.now.entries (told journal.now.head journal.now.entries))) }
+
+    // One write failed, or none where memory was refused.
+    ensures err { IfErr result (Fails (W.failures output.old) (W.failures output.new)) }
+    ensures ok { OnOk result (W.failures output.new ≡ W.failures output.old) }
 {
-    let Carried { partners, ports } = carried_of(alloc, journal, story)?;
+    let Known {
+        ends,
+        partners,
+        ports,
+    } = known_of(alloc, journal)?;
     let explained = Explained {
         journal,
-        story,
         clock: clock_in(journal),
+        ends: &ends,
         partners: &partners,
         paint,
     };
-    let mut last = LastMoves::new(alloc)?;
-    put_story(out, &mut last, &explained, ports, window)
-}
-
-/// Appends the story of a journal, without colours.
-pub fn push_story(
-    out: &mut PackedText,
-    alloc: Global,
-    journal: &ShortJournal,
-    story: &Story,
-    window: Window,
-) -> Result<(), NoMemory>
-    requires story { IsStoryOf journal.now story.now }
-    requires few { length journal.now.entries < 2 ^ 32 - 1 }
-    ensures { OnOk result (
-        out.new.items ≡ out.old.items
-        ++ story_text window journal.now.head journal.now.entries story.now.told.items) }
-{
-    push_painted(out, alloc, journal, story, window, Paint::Plain)
-}
-
-/// The story of a journal as text: a line for each step that the window has, with those whom it stalled below it; then a line for
-/// each port that was made, which calls waited longest, and who waits or is outside in the end. Steps and the numbers of entries
-/// are counted from 1. The lines of steps are in colours if these are asked for. Calls that the journal's clock cancels are told to
-/// have timed out. `Err` where memory was refused.
-pub fn story_text(
-    alloc: Global,
-    journal: &ShortJournal,
-    story: &Story,
-    window: Window,
-    paint: Paint,
-) -> Result<PackedText, NoMemory>
-    requires story { IsStoryOf journal.now story.now }
-    requires few { length journal.now.entries < 2 ^ 32 - 1 }
-    ensures { IfOk result (λ text.
-        text.items ≡ painted_text paint window journal.now.head journal.now.entries story.now.told.items) }
-{
-    let mut out = PackedText::new(alloc);
-    push_painted(&mut out, alloc, journal, story, window, paint)?;
-    Ok(out)
+    let mut walk = Walk::new(alloc, journal)?;
+    let mut seen = Seen::new(alloc)?;
+    write_explained(output, &mut walk, &mut seen, &explained, &ports, window)
 }

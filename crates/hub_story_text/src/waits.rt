@@ -1,18 +1,18 @@
 //! How many calls waited, and which of them waited longest.
 
-ghost use Rattle.std.specs.Prelude.{◌≡◌, ◌≤◌, ◌<◌, ◌+◌, ◌-◌, ◌^◌, ◌++◌, List, [], count_by, false, insert, length, slice_get, take, IfOk, OnOk};
-ghost use Rattle.std.specs.List.{cons_option, flat_map};
+ghost use Rattle.std.specs.Prelude.{◌≡◌, ◌≤◌, ◌<◌, ◌+◌, ◌-◌, ◌^◌, ◌++◌, List, [], count_by, false, insert, length, slice_get, take, OnOk};
+ghost use Rattle.std.specs.List.{AllByRecursion, cons_option, flat_map};
 ghost use Rattle.std.specs.Option.{option_map_or};
+ghost use Rattle.hub_story.specs.Told.{end_of};
 ghost use Rattle.hub_story_text.specs.declared.waits.Wait.{Wait};
 ghost use Rattle.hub_story_text.specs.Explained.{IsExplained, entries_of, told_of};
-ghost use Rattle.hub_story_text.specs.Waits.{AreWaits, counts, line_at, told_wait, wait_of, waits, waits_text, with_wait};
+ghost use Rattle.hub_story_text.specs.Waits.{AreWaits, EndsLate, counts, line_at, told_wait, wait_of, waits as all_waits, waits_text, with_wait};
 
-use crate::clock::{is_by_clock, is_clock};
 use crate::explained::{Explained, put_told_line};
 use crate::numbers::put_number;
 use hub_base::{NoMemory, Pid};
 use hub_core::{CaseRoom, ShortEntries};
-use hub_story::Told;
+use hub_story::{Told, is_by_clock, is_clock};
 use std::alloc::{AllocError, Global};
 
 /// How many of the longest waits are told.
@@ -20,7 +20,7 @@ pub(crate) const MOST_LONGEST: usize = 5;
 
 /// The wait of a call.
 #[derive(Clone, Copy)]
-struct Wait {
+pub(crate) struct Wait {
     /// The place of its entry.
     place: u32,
     /// How many steps it waited.
@@ -29,7 +29,7 @@ struct Wait {
 
 /// The waits of some calls.
 #[derive(Drop)]
-struct Waits {
+pub(crate) struct Waits {
     /// How many there are.
     count: usize,
     /// The longest few, longest first.
@@ -56,17 +56,18 @@ fn wait_of(count: usize, place: usize, end: Option<Told>) -> Option<Wait>
     }
 }
 
-/// The wait of the call at this place, unless it is the clock's.
-fn told_wait(explained: &Explained, place: usize) -> Option<Wait>
+/// The wait of the call at this place that ended so, unless it is the clock's.
+pub(crate) fn told_wait(explained: &Explained, place: usize, end: Option<Told>) -> Option<Wait>
     requires explained { IsExplained explained.now }
     requires within { place < length (entries_of explained.now) }
+    requires end { end ≡ end_of (told_of explained.now) place }
     ensures { result ≡ told_wait explained.now.clock (entries_of explained.now) (told_of explained.now) place }
 {
     let entries = explained.journal.entries();
     if is_by_clock(explained.clock, entries, place as u32) {
         return None;
     }
-    wait_of(entries.len(), place, explained.end(place))
+    wait_of(entries.len(), place, end)
 }
 
 /// Behind how many of these, which stand longest first, a wait comes.
@@ -93,8 +94,19 @@ fn rank(ranked: &mut Vec<Wait>, wait: Wait) -> Result<(), AllocError>
 }
 
 impl Waits {
+    /// None.
+    pub(crate) fn new(alloc: Global) -> Waits
+        ensures waits { AreWaits [] result }
+        ensures few { result.count ≡ 0 }
+    {
+        Waits {
+            count: 0,
+            longest: Vec::new(alloc),
+        }
+    }
+
     /// Takes in the next wait, if there is one.
-    fn note(&mut self, wait: Option<Wait>) -> Result<(), AllocError>
+    pub(crate) fn note(&mut self, wait: Option<Wait>) -> Result<(), AllocError>
         requires { self.old.count < 2 ^ 32 }
         ensures waits { OnOk result ((ws : List Wait) → AreWaits ws self.old → AreWaits (ws ++ cons_option wait []) self.new) }
         ensures few { OnOk result (self.new.count ≤ self.old.count + 1) }
@@ -105,22 +117,6 @@ impl Waits {
         rank(&mut self.longest, wait)?;
         self.count += 1;
         Ok(())
-    }
-
-    /// All of a journal.
-    fn of(alloc: Global, explained: &Explained) -> Result<Waits, AllocError>
-        requires explained { IsExplained explained.now }
-        ensures { IfOk result (AreWaits (waits explained.now.clock (entries_of explained.now) (told_of explained.now))) }
-    {
-        let count = explained.journal.entries().len();
-        let mut waits = Waits {
-            count: 0,
-            longest: Vec::new(alloc),
-        };
-        for place in 0..count {
-            waits.note(told_wait(explained, place))?;
-        }
-        Ok(waits)
     }
 }
 
@@ -148,6 +144,7 @@ fn calls_of(clock: Option<Pid>, entries: &ShortEntries) -> usize
 /// Appends the line of the step whose call waited so.
 fn put_wait(out: &mut Vec<u8>, explained: &Explained, wait: Wait) -> Result<(), NoMemory>
     requires explained { IsExplained explained.now }
+    requires late { EndsLate (told_of explained.now) wait }
     ensures { OnOk result (out.new.items ≡
         out.old.items ++ line_at explained.now.clock (entries_of explained.now) (told_of explained.now) wait) }
 {
@@ -156,12 +153,14 @@ fn put_wait(out: &mut Vec<u8>, explained: &Explained, wait: Wait) -> Result<(), 
     let Some(entry) = entries.get(wait.place as usize, &mut room) else {
         return Ok(());
     };
-    put_told_line(out, explained, wait.place, &entry, &[])
+    let end = explained.ends.at(wait.place as usize);
+    put_told_line(out, explained, wait.place, &entry, end, &[])
 }
 
 /// Appends the lines of these.
 fn put_longest(out: &mut Vec<u8>, explained: &Explained, longest: &[Wait]) -> Result<(), NoMemory>
     requires explained { IsExplained explained.now }
+    requires late { AllByRecursion (EndsLate (told_of explained.now)) longest.now }
     ensures { OnOk result (out.new.items ≡
         out.old.items
         ++ flat_map (line_at explained.now.clock (entries_of explained.now) (told_of explained.now)) longest.now) }
@@ -173,12 +172,16 @@ fn put_longest(out: &mut Vec<u8>, explained: &Explained, longest: &[Wait]) -> Re
 }
 
 /// Appends how many calls waited, and the lines of those that waited longest.
-pub(crate) fn put_waits(out: &mut Vec<u8>, explained: &Explained) -> Result<(), NoMemory>
+pub(crate) fn put_waits(
+    out: &mut Vec<u8>,
+    explained: &Explained,
+    waits: &Waits,
+) -> Result<(), NoMemory>
     requires explained { IsExplained explained.now }
+    requires waits { AreWaits (all_waits explained.now.clock (entries_of explained.now) (told_of explained.now)) waits.now }
     ensures { OnOk result (out.new.items ≡
         out.old.items ++ waits_text explained.now.clock (entries_of explained.now) (told_of explained.now)) }
 {
-    let waits = Waits::of(*out.allocator(), explained)?;
     put_number(out, b"", waits.count as u64)?;
     put_number(
         out,

@@ -64,11 +64,10 @@ fn put_first(out: &mut [u8], at: usize, n: u64) -> usize
     requires room { at + 2 ≤ length out.old }
     ensures { Puts out.old out.new at (decimal n) 2 result }
 {
-    if n < 10 {
-        put(out, at, &[b'0' + n as u8])
-    } else {
-        put_pair(out, at, n)
+    if n >= 10 {
+        return put_pair(out, at, n);
     }
+    put(out, at, &[b'0' + n as u8])
 }
 
 /// Puts a number of up to four digits.

@@ -5,9 +5,11 @@
 
 ghost use Rattle.std.specs.Prelude.{◌≡◌, ◌∷◌, [], false};
 ghost use Rattle.hub_base.specs.Lines.{call};
+ghost use Rattle.hub_base.specs.Notation.{exit};
+ghost use Rattle.hub_base.specs.Reading.{is_exit};
 ghost use Rattle.hub_text.specs.Place.{step_in};
 
-use hub_base::{Case, CaseSlice, Cases, Entry, EntryRef, Pid, Step, StepRef};
+use hub_base::{Case, CaseSlice, Cases, Entry, EntryRef, Pid, Step};
 use std::marker::Model;
 
 /// A place for a step.
@@ -20,29 +22,6 @@ pub(crate) struct StepPlace {
 }
 
 impl StepPlace {
-    /// The step, whose cases stay where they are.
-    #[inline(always)]
-    fn step(&self) -> StepRef<'_>
-        ensures { result ≡ step_in self.now }
-    {
-        match &self.bare {
-            Step::Make(cap) => Step::Make(*cap),
-            Step::Call { default, word, .. } => Step::Call {
-                cases: CaseSlice::of(&self.cases),
-                default: *default,
-                word: *word,
-            },
-            Step::Close(port) => Step::Close(*port),
-            Step::Exit => Step::Exit,
-            Step::Cancel(pid) => Step::Cancel(*pid),
-            Step::Start(pid) => Step::Start(*pid),
-            Step::Reopen { port, cap } => Step::Reopen {
-                port: *port,
-                cap: *cap,
-            },
-        }
-    }
-
     /// Makes it a call of this case alone, without default and with word 0.
     pub(crate) fn set_call(&mut self, case: Case)
         ensures { step_in self.new ≡ call (case ∷ []) false 0 }
@@ -77,9 +56,6 @@ impl Model for EntryPlace {
 }
 
 impl EntryPlace {
-    ghost use Rattle.hub_base.specs.Notation.{exit};
-    ghost use Rattle.hub_base.specs.Reading.{is_exit};
-
     /// A place in which an exit of process 0 stands.
     pub fn new() -> EntryPlace
         ensures { result ≡ exit 0 }
@@ -108,7 +84,7 @@ impl EntryPlace {
     {
         Entry {
             pid: self.pid,
-            step: self.step.step(),
+            step: self.step.bare.with_cases(CaseSlice::of(&self.step.cases)),
         }
     }
 

@@ -1,2 +1,3 @@
-mod Words
-mod PortMoves
+mod Spelled
+mod Walks
+mod Written

@@ -1,7 +1,5 @@
+pub mod Json
+pub mod Diagrams
+pub mod ReaderRows
+pub mod Formats
 pub mod Pieces
-pub mod Pens
-pub mod Moves
-pub mod Ports
-pub mod Diagram
-pub mod Traffic
-pub mod Trace

@@ -1,30 +1,76 @@
--- The pieces of a line: fixed words, numbers, and what journals and events spell.
-use Rattle.std.specs.Prelude.{ℕ, ◌+◌, List, [], ◌∷◌, ◌++◌, decimal, drop, length}
-use Rattle.std.specs.List.{join_with_byte}
-use Rattle.hub_base.specs.Entry.{Entry}
-use Rattle.hub_base.specs.EventText.{what_text}
-use Rattle.hub_base.specs.Lines.{step_fields}
-use Rattle.hub_base.specs.Value.{value_field}
-use Rattle.hub_base.specs.declared.event.What.{What}
+-- The pieces of a line: fixed words, numbers, and what journals and events spell; and where readers go by them.
+use Rattle.std.specs.Prelude.{◌≡◌, ℕ, ◌<◌, ◌^◌, ◌==◌, ◌&&◌, ◌||◌, not, nat_le, Bool, true, List, [], ◌∷◌, ◌++◌, codes, decimal, if◌then◌else◌}
+use Rattle.std.specs.Prelude.{Option, None, Some, MatchOption}
+use Rattle.std.specs.List.{flat_map, list_all}
+use Rattle.hub_trace.specs.Json as json
+use Rattle.hub_trace.specs.Json.{Nest, State, at}
+use Rattle.hub_trace.specs.Json.Place.{Value, Text, Number}
+use Rattle.hub_trace.specs.Diagrams as diagrams
+use Rattle.hub_trace.specs.Diagrams.Place.{Due}
 use Rattle.hub_trace.specs.declared.pieces.Piece.{Piece}
-use Rattle.hub_trace.specs.declared.pieces.Piece.TheVariants.{Word, Number, Asks, Tells, Carries}
+use Rattle.hub_trace.specs.declared.pieces.Piece.TheVariants as piece
 
--- what an entry asks: its line in the journal without its process, `recv 1`
-abbrev pub asked_words : Entry → List ℕ
-asked_words e = drop (length (decimal e.pid.0) + 1) (join_with_byte 32 (decimal e.pid.0 ∷ step_fields e.step))
+-- journals and events spell with visible bytes and spaces, but no quotation mark (34), semicolon (59) or backslash (92)
+abbrev pub is_spelled : ℕ → Bool
+is_spelled c = nat_le 32 c && (nat_le c 126 && not ((c == 34) || ((c == 59) || (c == 92))))
 
--- what a process is told: the line of the event without its process, `case 0 got 7`
-abbrev pub told_words : What → List ℕ
-told_words w = drop 1 (what_text w)
+abbrev pub IsSpelled : List ℕ → Type 0
+IsSpelled text = list_all is_spelled text ≡ true
 
-abbrev pub piece_text : Piece → List ℕ
-piece_text (Word bytes) = bytes.now
-piece_text (Number n) = decimal n
-piece_text (Asks e) = asked_words e.now
-piece_text (Tells w) = told_words w
-piece_text (Carries v) = value_field v
+-- what may stand for a piece
+abbrev pub Stands : Piece → List ℕ → Type 0
+Stands (piece.Word bytes) text = text ≡ bytes.now
+Stands (piece.Number n) text = (text ≡ decimal n) × (n < 2 ^ 64)
+Stands other text = IsSpelled text
 
--- texts, one after the other
-abbrev pub joined : List (List ℕ) → List ℕ
-joined [] = []
-joined (text ∷ texts) = text ++ joined texts
+-- a text grew by what may stand for a piece; and for these, one after the other
+pub record Grows (p : Piece) (old new : List ℕ) : Type 0 where
+  pub text : List ℕ
+  pub is : new ≡ old ++ text
+  pub stands : Stands p text
+
+abbrev pub Chain : List Piece → List ℕ → List ℕ → Type 0
+Chain [] old new = new ≡ old
+Chain (p ∷ ps) old new = (mid : List ℕ) × Grows p old mid × Chain ps mid new
+
+pub record GrowsBy (ps : List Piece) (old new : List ℕ) : Type 0 where
+  pub chain : Chain ps old new
+
+-- ---- by pieces a reader goes from here to there, whatever may stand for them
+abbrev pub Walks : {S : Type 0} → (Piece → S → Option S) → List Piece → S → S → Type 0
+Walks behind [] s t = s ≡ t
+Walks behind (p ∷ ps) s t = MatchOption (behind p s) ⊥ (λ u. Walks behind ps u t)
+
+-- in JSON a number stands where a value begins, or in a string; what is spelled stands in a string alone
+abbrev pub number_behind : ℕ → json.Place → List Nest → Option State
+number_behind n Value nest = Some (at (Number (not (n == 0))) nest)
+number_behind n Text nest = Some (at Text nest)
+number_behind n other nest = None
+
+abbrev pub spelled_behind : json.Place → List Nest → Option State
+spelled_behind Text nest = Some (at Text nest)
+spelled_behind other nest = None
+
+abbrev pub behind : Piece → State → Option State
+behind (piece.Word bytes) s = Some (json.after s bytes.now)
+behind (piece.Number n) s = number_behind n s.place s.nest
+behind other s = spelled_behind s.place s.nest
+
+-- ---- behind a `#`, which is 35, Mermaid would read a comment
+abbrev pub escape : ℕ → List ℕ
+escape c = if c == 35 then codes "#35;" else c ∷ []
+
+-- a text grew by what may stand for these, escaped
+pub record GrowsEscaped (ps : List Piece) (old new : List ℕ) : Type 0 where
+  pub plain : List ℕ
+  pub chain : Chain ps [] plain
+  pub is : new ≡ old ++ flat_map escape plain
+
+-- in a diagram numbers, and what is spelled, stand in a line
+abbrev pub line_behind : diagrams.Place → Option diagrams.Place
+line_behind (Due []) = Some (Due [])
+line_behind other = None
+
+abbrev pub escaped_behind : Piece → diagrams.Place → Option diagrams.Place
+escaped_behind (piece.Word bytes) p = Some (diagrams.after p (flat_map escape bytes.now))
+escaped_behind other p = line_behind p

@@ -4,13 +4,12 @@
 #![tactic(auto)]
 
 mod diagram;
-mod moves;
-mod pen;
 mod pieces;
-mod ports;
+mod rooms;
 mod trace;
 mod traffic;
+mod writing;
 
-pub use diagram::mermaid_text;
+pub use diagram::write_diagram;
 pub use hub_story::Window;
-pub use trace::trace_text;
+pub use trace::write_trace;

@@ -1,15 +1,14 @@
 //! The pieces of a line.
 
-ghost use Rattle.std.specs.Prelude.{◌≡◌, ◌++◌, ◌+◌, codes, decimal, length, IfOk, OnOk};
-ghost use Rattle.std.specs.List.{flat_map};
-ghost use Rattle.hub_base.specs.EventText.{event_line};
-ghost use Rattle.hub_base.specs.Lines.{line};
-ghost use Rattle.hub_trace.specs.Pieces.{asked_words, piece_text, told_words};
+ghost use Rattle.std.specs.Prelude.{◌≡◌, ◌++◌, ◌<◌, ◌+◌, List, ℕ, codes, drop, length, vec_len, OnOk};
+ghost use Rattle.hub_trace.specs.declared.pieces.Piece.TheVariants.{Asks, Tells};
+ghost use Rattle.hub_trace.specs.Formats.Format.{Trace};
+ghost use Rattle.hub_trace.specs.Formats.{Keeps, in_events};
+ghost use Rattle.hub_trace.specs.Pieces.{Grows, GrowsBy, Walks, behind};
 
 use hub_base::{Edition, EntryRef, Event, NoMemory, Pid, Value, What};
+use hub_story::Part;
 use hub_text::{write_entry, write_event, write_number, write_value};
-use itoa::Buffer;
-use std::alloc::Global;
 
 /// A piece of a line.
 #[derive(Clone, Copy)]
@@ -20,87 +19,104 @@ pub(crate) enum Piece<'a> {
     Number(u64),
     /// What an entry asks: its line in the journal, without its process.
     Asks(&'a EntryRef<'a>),
-    /// What a process is told: the line of the event, without its process.
-    Tells(What),
+    /// What a process is told: the line of the event, without its process, but for what is the clock's.
+    Tells(Part, What),
     /// A value.
     Carries(Value),
+    /// Whether a call waited, in a word.
+    Waited(bool),
+    /// That a process is the clock, if it is.
+    Clock(bool),
 }
 
 /// The number of the step at this place, as it is printed.
-pub(crate) fn number_of(place: u32) -> u64
-    ensures { result ≡ place + 1 }
-{
+pub(crate) fn number_of(place: u32) -> u64 {
     u64::from(place) + 1
 }
 
-/// How many bytes the number has.
-fn digits_of(number: u64) -> usize
-    ensures { result ≡ length (decimal number) }
-{
-    let mut buffer = Buffer::new();
-    buffer.format(number).len()
+/// How many bytes a process has in a line, with the space behind it.
+fn process_len(pid: Pid) -> usize {
+    match pid.0 {
+        0..=9 => 2,
+        10..=99 => 3,
+        _ => 4,
+    }
 }
 
-/// The line of an entry, without its newline. The third edition has every entry.
-fn entry_words(alloc: Global, entry: &EntryRef<'_>) -> Result<Vec<u8>, NoMemory>
-    ensures { IfOk result (λ words. words.items ++ codes "\n" ≡ line entry.now) }
+/// Takes the process out of the line that begins at this place, and the newline.
+fn take_out(out: &mut Vec<u8>, line: usize, process: usize)
+    requires { line < vec_len out.old }
+    ensures { (front words : List ℕ) → out.old.items ≡ front ++ words ++ codes "\n" → length front ≡ line
+        → (behind : ℕ) × (out.new.items ≡ front ++ drop behind words) }
 {
-    let mut line = Vec::new(alloc);
-    write_entry(&mut line, Edition::Three, entry)?;
-    line.truncate(line.len() - 1);
-    Ok(line)
+    out.truncate(out.len() - 1);
+    let behind = line + process.min(out.len() - line);
+    out.drain(line..behind);
 }
 
-/// Appends what an entry asks.
+/// Appends what an entry asks. The third edition has every entry.
 fn put_asked(out: &mut Vec<u8>, entry: &EntryRef<'_>) -> Result<(), NoMemory>
-    ensures { OnOk result (out.new.items ≡ out.old.items ++ asked_words entry.now) }
+    ensures { OnOk result (Grows (Asks entry.entry) out.old.items out.new.items) }
 {
-    let words = entry_words(*out.allocator(), entry)?;
-    let behind = (digits_of(entry.pid.0.into()) + 1).min(words.len());
-    Ok(out.extend_from_slice(&words[behind..])?)
+    let line = out.len();
+    write_entry(out, Edition::Three, entry)?;
+    take_out(out, line, process_len(entry.pid));
+    Ok(())
 }
 
-/// The line of an event that process 0 is told, without its newline.
-fn event_words(alloc: Global, what: What) -> Result<Vec<u8>, NoMemory>
-    ensures { IfOk result (λ words.
-        words.items ++ codes "\n" ≡ event_line (record { pid = record { 0 = 0 }; what = what })) }
+/// Appends the words of an event.
+fn put_event_words(out: &mut Vec<u8>, part: Part, what: What) -> Result<(), NoMemory>
+    ensures { OnOk result (Grows (Tells part what) out.old.items out.new.items) }
 {
-    let mut line = Vec::new(alloc);
-    write_event(&mut line, &Event { pid: Pid(0), what })?;
-    line.truncate(line.len() - 1);
-    Ok(line)
+    let line = out.len();
+    let pid = Pid(0);
+    write_event(out, &Event { pid, what })?;
+    take_out(out, line, process_len(pid));
+    Ok(())
 }
 
-/// So many bytes of that line are the process and the space behind it.
-const PROCESS: usize = b"0 ".len();
-
-/// Appends what a process is told: the line of the event, without its process.
-fn put_told(out: &mut Vec<u8>, what: What) -> Result<(), NoMemory>
-    ensures { OnOk result (out.new.items ≡ out.old.items ++ told_words what) }
+/// Appends what a process is told. A call of the clock is woken, and what the clock cancels has timed out.
+fn put_told(out: &mut Vec<u8>, part: Part, what: What) -> Result<(), NoMemory>
+    ensures { OnOk result (Grows (Tells part what) out.old.items out.new.items) }
 {
-    let words = event_words(*out.allocator(), what)?;
-    Ok(out.extend_from_slice(&words[PROCESS.min(words.len())..])?)
+    match (part, what) {
+        (Part::OwnCall, What::Cancelled | What::Stalled) => Ok(out.extend_from_slice(b"woken")?),
+        (Part::OwnStep, What::Cancelled) => Ok(out.extend_from_slice(b"timed out")?),
+        _ => put_event_words(out, part, what),
+    }
 }
 
 /// Appends a piece.
 fn put_piece(out: &mut Vec<u8>, piece: &Piece<'_>) -> Result<(), NoMemory>
-    ensures { OnOk result (out.new.items ≡ out.old.items ++ piece_text piece.now) }
+    ensures { OnOk result (Grows piece.now out.old.items out.new.items) }
 {
     match piece {
         Piece::Word(bytes) => Ok(out.extend_from_slice(bytes)?),
         Piece::Number(number) => Ok(write_number(out, *number)?),
         Piece::Asks(entry) => put_asked(out, entry),
-        Piece::Tells(what) => put_told(out, *what),
+        Piece::Tells(part, what) => put_told(out, *part, *what),
         Piece::Carries(value) => write_value(out, value),
+        Piece::Waited(true) => Ok(out.extend_from_slice(b"wait")?),
+        Piece::Waited(false) => Ok(out.extend_from_slice(b"step")?),
+        Piece::Clock(true) => Ok(out.extend_from_slice(b", the clock")?),
+        Piece::Clock(false) => Ok(()),
     }
 }
 
 /// Appends pieces, in order.
 pub(crate) fn put_pieces(out: &mut Vec<u8>, pieces: &[Piece<'_>]) -> Result<(), NoMemory>
-    ensures { OnOk result (out.new.items ≡ out.old.items ++ flat_map piece_text pieces.now) }
+    ensures { OnOk result (GrowsBy pieces.now out.old.items out.new.items) }
 {
     for piece in pieces {
         put_piece(out, piece)?;
     }
     Ok(())
+}
+
+/// Appends the line of an event of a trace.
+pub(crate) fn put_event(text: &mut Vec<u8>, pieces: &[Piece<'_>]) -> Result<(), NoMemory>
+    requires { Walks behind pieces.now in_events in_events }
+    ensures { OnOk result (Keeps Trace text.old.items text.new.items) }
+{
+    put_pieces(text, pieces)
 }

@@ -1,106 +1,111 @@
 //! A trace in Chrome's format.
 
-ghost use Rattle.std.specs.Prelude.{◌≡◌, ◌++◌, IfOk, OnOk};
-ghost use Rattle.hub_story.specs.Stories.{IsStoryOf};
-ghost use Rattle.hub_trace.specs.Trace.{event_text, ended_text, is_marked, kind_of, mark_text, marked_process, marked_text, name_text, slice_text, still_text};
-ghost use Rattle.hub_trace.specs.Trace.{told_text, trace_text};
+ghost use Rattle.std.specs.Prelude.{◌≡◌, IfErr, IfOk, OnErr, OnOk};
+ghost use Rattle.hub_replay.specs.ViewFaults.{Fails};
+ghost use Rattle.hub_trace.specs.Formats.Format.{Trace};
+ghost use Rattle.hub_trace.specs.Formats.{AppendsSome, AtLine, Begins, Goes, Keeps, Leads};
+ghost use Rattle.hub_trace.specs.Json.{IsBegun, IsJson};
 
-mod body;
-
-use self::body::push_trace;
-use crate::pen::Pen;
-use crate::pieces::{Piece, number_of, put_pieces};
+use crate::pieces::{Piece, number_of, put_event, put_pieces};
 use crate::traffic::Traffic;
-use hub_base::{EntryRef, NoMemory, Step, StepRef, What};
+use crate::writing::{Pen, write_each};
+use hub_base::{EntryRef, NoMemory, Pid, Step, StepRef, What};
 use hub_core::{CaseRoom, ShortEntries, ShortJournal};
-use hub_story::{Story, Told};
-use hub_story_text::PackedText;
+use hub_replay::{Sink, ViewFault, write_whole};
+use hub_story::{Part, Story, Told, clock_in, is_clock, part_of};
 use std::alloc::Global;
 
-/// What stands before all events but one.
-const OPENING: &[u8] =
-    b"{\"traceEvents\":[\n{\"ph\":\"M\",\"pid\":1,\"name\":\"process_name\",\"args\":{\"name\":\"processes\"}},\n";
-
-/// What stands behind them; no comma stands behind the last.
-const CLOSING: &[u8] =
-    b"{\"ph\":\"M\",\"pid\":2,\"name\":\"process_name\",\"args\":{\"name\":\"ports\"}}\n]}\n";
-
-/// The name of a process.
-#[derive(Clone, Copy)]
-struct Name;
-
-impl Pen<u8> for Name {
-    ghost text = { λ _. name_text };
-
-    fn put(&self, out: &mut Vec<u8>, pid: &u8) -> Result<(), NoMemory> {
-        put_pieces(
-            out,
-            &[
-                Piece::Word(b"{\"ph\":\"M\",\"pid\":1,\"tid\":"),
-                Piece::Number((*pid).into()),
-                Piece::Word(b",\"name\":\"thread_name\",\"args\":{\"name\":\"P"),
-                Piece::Number((*pid).into()),
-                Piece::Word(b"\"}},\n"),
-            ],
-        )
-    }
-}
-
-/// Whether a step waited until a later one, in a word.
-fn kind_of(told: &Told) -> &'static [u8]
-    ensures { result.now ≡ kind_of told.now }
+/// Appends the name of a process.
+fn put_name(text: &mut Vec<u8>, pid: u8, clock: Option<Pid>) -> Result<(), NoMemory>
+    ensures { OnOk result (Keeps Trace text.old.items text.new.items) }
 {
-    if told.asked < told.by {
-        b"wait"
-    } else {
-        b"step"
-    }
+    put_event(
+        text,
+        &[
+            Piece::Word(b"{\"ph\":\"M\",\"pid\":1,\"tid\":"),
+            Piece::Number(pid.into()),
+            Piece::Word(b",\"name\":\"thread_name\",\"args\":{\"name\":\"P"),
+            Piece::Number(pid.into()),
+            Piece::Clock(is_clock(clock, Pid(pid))),
+            Piece::Word(b"\"}},\n"),
+        ],
+    )
 }
 
-/// Appends the slice of an entry, of this kind, until the end of so many steps.
-fn put_slice<'a>(
-    out: &mut Vec<u8>,
-    kind: &'a [u8],
-    end: u64,
-    told: &Told,
-    entry: &'a EntryRef<'a>,
-) -> Result<(), NoMemory>
-    ensures { OnOk result (out.new.items ≡ out.old.items ++ slice_text kind.now end told.now entry.now) }
+/// The first lines, with the names of so many processes.
+fn first_lines(alloc: Global, procs: u8, clock: Option<Pid>) -> Result<Vec<u8>, NoMemory>
+    ensures { IfOk result (λ text. AtLine Trace text.items) }
+{
+    let mut text = Vec::from_slice(
+        alloc,
+        b"{\"traceEvents\":[\n{\"ph\":\"M\",\"pid\":1,\"name\":\"process_name\",\"args\":{\"name\":\"processes\"}},\n",
+    )?;
+    for pid in 0..procs {
+        put_name(&mut text, pid, clock)?;
+    }
+    Ok(text)
+}
+
+/// Appends the last lines. No comma stands behind the last event.
+fn put_end(text: &mut Vec<u8>) -> Result<(), NoMemory>
+    ensures { OnOk result (Leads (AtLine Trace) IsJson text.old.items text.new.items) }
 {
     put_pieces(
-        out,
+        text,
+        &[Piece::Word(
+            b"{\"ph\":\"M\",\"pid\":2,\"name\":\"process_name\",\"args\":{\"name\":\"ports\"}}\n]}\n",
+        )],
+    )
+}
+
+/// An event, with the entry that it is told of, and what the clock has to do with it.
+#[derive(Clone, Copy)]
+struct Said<'a> {
+    /// The event.
+    told: &'a Told,
+    /// The entry.
+    entry: &'a EntryRef<'a>,
+    /// The clock's part.
+    part: Part,
+}
+
+/// Appends the slice of an entry, until the end of so many steps.
+fn put_slice(text: &mut Vec<u8>, waited: bool, end: u64, said: &Said<'_>) -> Result<(), NoMemory>
+    ensures { OnOk result (Keeps Trace text.old.items text.new.items) }
+{
+    put_event(
+        text,
         &[
             Piece::Word(b"{\"ph\":\"X\",\"pid\":1,\"tid\":"),
-            Piece::Number(told.event.pid.0.into()),
+            Piece::Number(said.told.event.pid.0.into()),
             Piece::Word(b",\"ts\":"),
-            Piece::Number(number_of(told.asked)),
+            Piece::Number(number_of(said.told.asked)),
             Piece::Word(b",\"dur\":"),
-            Piece::Number(end.saturating_sub(told.asked.into())),
+            Piece::Number(end.saturating_sub(said.told.asked.into())),
             Piece::Word(b",\"cat\":\""),
-            Piece::Word(kind),
+            Piece::Waited(waited),
             Piece::Word(b"\",\"name\":\""),
-            Piece::Asks(entry),
+            Piece::Asks(said.entry),
             Piece::Word(b"\",\"args\":{\"told\":\""),
-            Piece::Tells(told.event.what),
+            Piece::Tells(said.part, said.told.event.what),
             Piece::Word(b"\"}},\n"),
         ],
     )
 }
 
 /// Appends the slice of an entry, where the event ended it.
-fn put_ended(out: &mut Vec<u8>, told: &Told, entry: &EntryRef<'_>) -> Result<(), NoMemory>
-    ensures { OnOk result (out.new.items ≡ out.old.items ++ ended_text told.now entry.now) }
+fn put_ended(text: &mut Vec<u8>, said: &Said<'_>) -> Result<(), NoMemory>
+    ensures { OnOk result (Keeps Trace text.old.items text.new.items) }
 {
+    let told = said.told;
     if told.event.what.is_parked() {
         return Ok(());
     }
-    put_slice(out, kind_of(told), number_of(told.by), told, entry)
+    put_slice(text, told.asked < told.by, number_of(told.by), said)
 }
 
 /// Whether an event of this step has a mark.
-fn is_marked(step: &StepRef<'_>, what: What) -> bool
-    ensures { result ≡ is_marked step.now what }
-{
+fn is_marked(step: &StepRef<'_>, what: What) -> bool {
     match what {
         What::Stalled | What::Cancelled => true,
         What::Done => matches!(step, Step::Close(_) | Step::Reopen { .. } | Step::Start(_)),
@@ -109,67 +114,60 @@ fn is_marked(step: &StepRef<'_>, what: What) -> bool
 }
 
 /// Where the mark of this process's step stands.
-fn marked_process(pid: u8, step: &StepRef<'_>) -> u8
-    ensures { result ≡ marked_process pid step.now }
-{
+fn marked_process(pid: u8, step: &StepRef<'_>) -> u8 {
     match step {
         Step::Start(started) => started.0,
         _ => pid,
     }
 }
 
-/// Appends the mark of an event.
-fn put_mark(out: &mut Vec<u8>, told: &Told, entry: &EntryRef<'_>) -> Result<(), NoMemory>
-    ensures { OnOk result (out.new.items ≡ out.old.items ++ mark_text told.now entry.now) }
+/// Appends the mark of an event that has one.
+fn put_mark(text: &mut Vec<u8>, said: &Said<'_>) -> Result<(), NoMemory>
+    ensures { OnOk result (Keeps Trace text.old.items text.new.items) }
 {
-    put_pieces(
-        out,
+    if !is_marked(&said.entry.step, said.told.event.what) {
+        return Ok(());
+    }
+    put_event(
+        text,
         &[
             Piece::Word(b"{\"ph\":\"i\",\"s\":\"t\",\"pid\":1,\"tid\":"),
-            Piece::Number(marked_process(told.event.pid.0, &entry.step).into()),
+            Piece::Number(marked_process(said.told.event.pid.0, &said.entry.step).into()),
             Piece::Word(b",\"ts\":"),
-            Piece::Number(number_of(told.by)),
+            Piece::Number(number_of(said.told.by)),
             Piece::Word(b",\"name\":\""),
-            Piece::Asks(entry),
+            Piece::Asks(said.entry),
             Piece::Word(b", "),
-            Piece::Tells(told.event.what),
+            Piece::Tells(said.part, said.told.event.what),
             Piece::Word(b"\"},\n"),
         ],
     )
 }
 
-/// Appends the mark of an event that has one.
-fn put_marked(out: &mut Vec<u8>, told: &Told, entry: &EntryRef<'_>) -> Result<(), NoMemory>
-    ensures { OnOk result (out.new.items ≡ out.old.items ++ marked_text told.now entry.now) }
-{
-    if is_marked(&entry.step, told.event.what) {
-        put_mark(out, told, entry)
-    } else {
-        Ok(())
-    }
-}
-
-/// Appends what stands for an event of this entry.
-fn put_told(out: &mut Vec<u8>, told: &Told, entry: &EntryRef<'_>) -> Result<(), NoMemory>
-    ensures { OnOk result (out.new.items ≡ out.old.items ++ told_text told.now entry.now) }
-{
-    put_ended(out, told, entry)?;
-    put_marked(out, told, entry)
-}
-
 /// Events of these entries.
 #[derive(Clone, Copy)]
-struct Events<'a>(&'a ShortEntries);
+struct Events<'a> {
+    /// The entries.
+    entries: &'a ShortEntries,
+    /// The clock, if one is.
+    clock: Option<Pid>,
+}
 
 impl Pen<Told> for Events<'_> {
-    ghost text = { λ events. event_text events.0.now };
+    ghost format = { Trace };
 
-    fn put(&self, out: &mut Vec<u8>, told: &Told) -> Result<(), NoMemory> {
+    fn put(&mut self, text: &mut Vec<u8>, told: &Told) -> Result<(), NoMemory> {
         let mut room = CaseRoom::new();
-        match self.0.get(told.asked as usize, &mut room) {
-            Some(entry) => put_told(out, told, &entry),
-            None => Ok(()),
-        }
+        let Some(entry) = self.entries.get(told.asked as usize, &mut room) else {
+            return Ok(());
+        };
+        let said = Said {
+            told,
+            entry: &entry,
+            part: part_of(self.clock, self.entries, told),
+        };
+        put_ended(text, &said)?;
+        put_mark(text, &said)
     }
 }
 
@@ -178,37 +176,61 @@ impl Pen<Told> for Events<'_> {
 struct Waiting<'a>(&'a ShortEntries);
 
 impl Pen<Told> for Waiting<'_> {
-    ghost text = { λ waiting. still_text waiting.0.now };
+    ghost format = { Trace };
 
-    fn put(&self, out: &mut Vec<u8>, told: &Told) -> Result<(), NoMemory> {
+    fn put(&mut self, text: &mut Vec<u8>, told: &Told) -> Result<(), NoMemory> {
         let mut room = CaseRoom::new();
-        match self.0.get(told.asked as usize, &mut room) {
-            Some(entry) => put_slice(out, b"wait", self.0.len() as u64, told, &entry),
-            None => Ok(()),
-        }
+        let Some(entry) = self.0.get(told.asked as usize, &mut room) else {
+            return Ok(());
+        };
+        let said = Said {
+            told,
+            entry: &entry,
+            part: Part::NoPart,
+        };
+        put_slice(text, true, self.0.len() as u64, &said)
     }
 }
 
-/// A journal as a trace in Chrome's format, a step being a microsecond: a slice for each entry until it ended; a mark for each
-/// call that was stalled or cancelled, for each close and reopen, and where a process is started again; and for each port the
-/// values that went through it, as flows, and how many it held. Steps are counted from 1. `Err` where memory was refused.
-pub fn trace_text(
+/// Writes these events, the calls that wait in the end, and the values of each port.
+fn write_lines<W: Sink>(
+    output: &mut W,
+    text: &mut Vec<u8>,
+    events: &mut Events<'_>,
+    traffic: &Traffic<'_>,
+    waiting: &[Told],
+) -> Result<(), ViewFault>
+    ensures goes { OnOk result (Goes Trace (W.contents output.old) (W.contents output.new) text.old.items text.new.items) }
+    ensures begun { OnErr result (Begins Trace (W.contents output.old) (W.contents output.new) text.old.items) }
+    ensures err { IfErr result (Fails (W.failures output.old) (W.failures output.new)) }
+    ensures ok { OnOk result (W.failures output.new ≡ W.failures output.old) }
+{
+    write_each(output, text, events, traffic.told)?;
+    write_each(output, text, &mut Waiting(events.entries), waiting)?;
+    traffic.write(output, text)
+}
+
+/// Writes a journal as a trace in Chrome's format, a step being a microsecond: a slice for each entry until it ended; a mark
+/// for each call that was stalled or cancelled, for each close and reopen, and where a process is started again; and for each
+/// port the values that went through it, as flows, and how many it held. Steps are counted from 1.
+pub fn write_trace<W: Sink>(
     alloc: Global,
     journal: &ShortJournal,
     story: &Story,
-) -> Result<PackedText, NoMemory>
-    requires { IsStoryOf journal.now story.now }
-    ensures { IfOk result (λ text.
-        text.items ≡ trace_text journal.now.head.procs journal.now.entries story.now.told.items) }
+    output: &mut W,
+) -> Result<(), ViewFault>
+    ensures whole { OnOk result (AppendsSome IsJson (W.contents output.old) (W.contents output.new)) }
+    ensures beginning { OnErr result (AppendsSome IsBegun (W.contents output.old) (W.contents output.new)) }
+    ensures err { IfErr result (Fails (W.failures output.old) (W.failures output.new)) }
+    ensures ok { OnOk result (W.failures output.new ≡ W.failures output.old) }
 {
-    let traffic = Traffic::of(alloc, journal.entries(), &story.told)?;
-    let mut out = PackedText::new(alloc);
-    push_trace(
-        &mut out,
-        alloc,
-        journal.head().procs,
-        &traffic,
-        &story.waiting,
-    )?;
-    Ok(out)
+    let entries = journal.entries();
+    let traffic = Traffic::of(alloc, entries, &story.told)?;
+    let clock = clock_in(journal);
+    let mut text = first_lines(alloc, journal.head().procs, clock)?;
+    let mut events = Events { entries, clock };
+    write_lines(output, &mut text, &mut events, &traffic, &story.waiting)?;
+    put_end(&mut text)?;
+    write_whole(output, &text)?;
+    Ok(())
 }

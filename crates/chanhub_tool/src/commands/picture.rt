@@ -1,17 +1,16 @@
 //! `chanhub_tool picture [FROM [TO]] [FILE] [-o OUT]`.
 
-ghost use Rattle.std.specs.Prelude.{◌≡◌, ◌<◌, ◌-◌, ◌^◌, length, IfOk};
-ghost use Rattle.hub_base.specs.Head.{IsHead};
-ghost use Rattle.hub_picture.specs.Svg.Page.{svg_text};
-ghost use Rattle.chanhub_tool.specs.Explains.{IsPicture};
+ghost use Rattle.std.specs.Prelude.{◌<◌, ◌-◌, ◌^◌, length, IfErr, OnErr, OnOk};
+ghost use Rattle.hub_picture.specs.Xml.{IsBegun, IsDocument};
+ghost use Rattle.hub_replay.specs.ViewFaults.{Fails};
+ghost use Rattle.chanhub_tool.specs.Explains.{Grows};
 
 use crate::given::journal_command;
 use clap::Command;
-use hub_base::NoMemory;
 use hub_core::ShortJournal;
-use hub_picture::{Drawing, drawing_of, write_svg};
-use hub_story::{Window, story_of};
-use hub_story_text::PackedText;
+use hub_picture::{drawing_of, write_svg};
+use hub_replay::{Sink, ViewFault};
+use hub_story::{Story, Window};
 use std::alloc::{AllocError, Global};
 
 pub(super) fn grammar<'a>(alloc: Global) -> Result<Command<'a>, AllocError> {
@@ -23,26 +22,19 @@ pub(super) fn grammar<'a>(alloc: Global) -> Result<Command<'a>, AllocError> {
     )
 }
 
-/// The text of a drawing.
-fn svg_of(alloc: Global, drawing: &Drawing) -> Result<Vec<u8>, NoMemory>
-    ensures { IfOk result (λ text. text.items ≡ svg_text drawing.now) }
-{
-    let mut text = Vec::new(alloc);
-    write_svg(drawing, &mut text)?;
-    Ok(text)
-}
-
-/// The picture of these steps.
-pub(crate) fn picture_of(
+/// Writes the picture of these steps.
+pub(crate) fn write_picture<W: Sink>(
     alloc: Global,
     journal: &ShortJournal,
+    story: &Story,
     window: Window,
-) -> Result<PackedText, NoMemory>
-    requires head { IsHead journal.now.head }
+    output: &mut W,
+) -> Result<(), ViewFault>
     requires few { length journal.now.entries < 2 ^ 32 - 1 }
-    ensures { IfOk result (λ text. IsPicture window journal.now text.items) }
+    ensures whole { OnOk result (Grows (W.contents output.old) (W.contents output.new) IsDocument) }
+    ensures beginning { OnErr result (Grows (W.contents output.old) (W.contents output.new) IsBegun) }
+    ensures err { IfErr result (Fails (W.failures output.old) (W.failures output.new)) }
 {
-    let story = story_of(alloc, journal)?;
-    let drawing = drawing_of(alloc, journal, &story, window)?;
-    Ok(PackedText::plain(svg_of(alloc, &drawing)?))
+    let drawing = drawing_of(alloc, journal, story, window)?;
+    write_svg(alloc, &drawing, output)
 }

@@ -1,19 +1,11 @@
 //! `chanhub_tool story [FROM [TO]] [FILE] [-o OUT] [--color WHEN]`.
 
-ghost use Rattle.std.specs.Prelude.{◌≡◌, ◌<◌, ◌-◌, ◌^◌, length, IfOk};
-ghost use Rattle.hub_base.specs.Head.{IsHead};
-ghost use Rattle.hub_story.specs.Told.{told};
-ghost use Rattle.hub_story_text.specs.StoryText.{painted_text};
-
 use crate::asked::Form;
 use crate::explain::explain_given;
 use crate::given::{Given, journal_command, optional, read_given};
 use clap::{Arg, ArgMatches, Command};
-use hub_base::NoMemory;
-use hub_core::ShortJournal;
 use hub_replay::Sink;
-use hub_story::{Window, story_of};
-use hub_story_text::{PackedText, Paint, story_text};
+use hub_story_text::Paint;
 use std::alloc::{AllocError, Global};
 use std::env::{Env, FillError};
 use std::io::IsTerminal;
@@ -107,20 +99,4 @@ pub(super) fn tell_story<X: Sink>(rt: &HostRuntime, telling: Telling<'_>, errors
         Paint::Plain
     };
     explain_given(rt, Form::Text(paint), telling.given, errors)
-}
-
-/// The story of these steps.
-pub(crate) fn story_of_steps(
-    alloc: Global,
-    journal: &ShortJournal,
-    window: Window,
-    paint: Paint,
-) -> Result<PackedText, NoMemory>
-    requires head { IsHead journal.now.head }
-    requires few { length journal.now.entries < 2 ^ 32 - 1 }
-    ensures { IfOk result (λ text. text.items
-        ≡ painted_text paint window journal.now.head journal.now.entries (told journal.now.head journal.now.entries)) }
-{
-    let story = story_of(alloc, journal)?;
-    story_text(alloc, journal, &story, window, paint)
 }

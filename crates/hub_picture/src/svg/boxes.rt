@@ -1,8 +1,6 @@
 //! The boxes of entries.
 
-ghost use Rattle.std.specs.Prelude.{◌≡◌};
-ghost use Rattle.hub_picture.specs.Pieces.{Appends};
-ghost use Rattle.hub_picture.specs.Svg.Boxes.{box_form, box_label, box_rect, box_texts, drawn_box};
+ghost use Rattle.hub_picture.specs.Reading.{Elements};
 
 use super::marks::{hue_in, put_mark};
 use super::rect::{Rect, put_rect};
@@ -10,13 +8,11 @@ use super::select::put_box_offers;
 use crate::Asked;
 use crate::frame::Frame;
 use crate::label::{label_of, shown_value};
-use crate::piece::{Piece, put, put_pieces};
+use crate::piece::{Piece, put_pieces};
 use std::alloc::AllocError;
 
 /// Where the box stands.
-fn rect_of(frame: Frame, asked: &Asked) -> Rect
-    ensures { result ≡ box_rect frame asked.now }
-{
+fn rect_of(frame: Frame, asked: &Asked) -> Rect {
     let sizes = frame.scale.sizes();
     Rect {
         x: frame.x(asked.place) + 3 - sizes.half,
@@ -28,7 +24,7 @@ fn rect_of(frame: Frame, asked: &Asked) -> Rect
 
 /// Appends what stands in it.
 fn put_label(out: &mut Vec<u8>, frame: Frame, asked: &Asked) -> Result<(), AllocError>
-    ensures { Appends out.old out.new (box_label frame asked.now) result }
+    ensures { Elements out.old out.new result }
 {
     put_pieces(
         out,
@@ -45,28 +41,13 @@ fn put_label(out: &mut Vec<u8>, frame: Frame, asked: &Asked) -> Result<(), Alloc
     )
 }
 
-/// Appends the box and the mark of its port.
-fn put_form(out: &mut Vec<u8>, frame: Frame, asked: &Asked) -> Result<(), AllocError>
-    ensures { Appends out.old out.new (box_form frame asked.now) result }
+/// Appends the box of an entry, the mark of its port, and its texts.
+pub(crate) fn put_box(out: &mut Vec<u8>, frame: Frame, asked: &Asked) -> Result<(), AllocError>
+    ensures { Elements out.old out.new result }
 {
     let rect = rect_of(frame, asked);
     put_rect(out, rect)?;
-    put_mark(out, hue_in(label_of(asked)), rect)
-}
-
-/// Appends its texts, and the end of the element.
-fn put_texts(out: &mut Vec<u8>, frame: Frame, asked: &Asked) -> Result<(), AllocError>
-    ensures { Appends out.old out.new (box_texts frame asked.now) result }
-{
+    put_mark(out, hue_in(label_of(asked)), rect)?;
     put_label(out, frame, asked)?;
-    put_box_offers(out, frame, asked)?;
-    put(out, b"</g>\n")
-}
-
-/// Appends the box of an entry.
-pub(crate) fn put_box(out: &mut Vec<u8>, frame: Frame, asked: &Asked) -> Result<(), AllocError>
-    ensures { Appends out.old out.new (drawn_box frame asked.now) result }
-{
-    put_form(out, frame, asked)?;
-    put_texts(out, frame, asked)
+    put_box_offers(out, frame, asked)
 }

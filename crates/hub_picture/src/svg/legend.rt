@@ -1,14 +1,11 @@
 //! How to read what occurs in a picture.
 
-ghost use Rattle.std.specs.Prelude.{◌≡◌, ◌≤◌, length};
-ghost use Rattle.std.specs.List.{list_any};
-ghost use Rattle.hub_picture.specs.Pieces.{Appends};
-ghost use Rattle.hub_picture.specs.Svg.Legend.{has_mark, legend_text, mark_sign, mark_words, occurs, of_end, of_label};
-ghost use Rattle.hub_picture.specs.Svg.Legend.{sign_text, signs_from};
+ghost use Rattle.std.specs.Prelude.{◌≤◌, codes, length};
+ghost use Rattle.hub_picture.specs.Reading.{AreElements, Elements, Opens};
 
 use crate::frame::ROW;
-use crate::label::{Label, label_of, last_told};
-use crate::piece::{Piece, put_pieces};
+use crate::label::{Label, class_told, label_of};
+use crate::piece::{put, put_filled};
 use crate::{Asked, Drawing};
 use hub_base::{Outcome, What};
 use std::alloc::AllocError;
@@ -55,9 +52,7 @@ pub(crate) enum Mark {
 }
 
 /// Whether a label has the mark.
-fn of_label(mark: Mark, label: Label) -> bool
-    ensures { result ≡ of_label mark label }
-{
+fn of_label(mark: Mark, label: Label) -> bool {
     match mark {
         Mark::Sends => matches!(label, Label::Send(_)),
         Mark::Receives => matches!(label, Label::Receive(_)),
@@ -74,9 +69,7 @@ fn of_label(mark: Mark, label: Label) -> bool
 }
 
 /// Whether an end has it.
-fn of_end(mark: Mark, what: What) -> bool
-    ensures { result ≡ of_end mark what }
-{
+fn of_end(mark: Mark, what: What) -> bool {
     match what {
         What::Parked => matches!(mark, Mark::Open),
         What::Cancelled => matches!(mark, Mark::Cancelled),
@@ -91,16 +84,12 @@ fn of_end(mark: Mark, what: What) -> bool
 }
 
 /// Whether an entry has it.
-fn has_mark(mark: Mark, asked: &Asked) -> bool
-    ensures { result ≡ has_mark mark asked.now }
-{
-    of_label(mark, label_of(asked)) || of_end(mark, last_told(asked.ended))
+fn has_mark(mark: Mark, asked: &Asked) -> bool {
+    of_label(mark, label_of(asked)) || of_end(mark, class_told(asked))
 }
 
 /// Whether one of these boxes has the mark.
-fn has_any(mark: Mark, boxes: &[Asked]) -> bool
-    ensures { result ≡ list_any (has_mark mark) boxes.now }
-{
+fn has_any(mark: Mark, boxes: &[Asked]) -> bool {
     for asked in boxes {
         if has_mark(mark, asked) {
             return true;
@@ -110,9 +99,7 @@ fn has_any(mark: Mark, boxes: &[Asked]) -> bool
 }
 
 /// Whether the drawing has it.
-fn occurs(drawing: &Drawing, mark: Mark) -> bool
-    ensures { result ≡ occurs drawing.now mark }
-{
+fn occurs(drawing: &Drawing, mark: Mark) -> bool {
     match mark {
         Mark::Bars => !drawing.bars.as_slice().is_empty(),
         Mark::Arrows => !drawing.arrows.as_slice().is_empty(),
@@ -124,7 +111,7 @@ fn occurs(drawing: &Drawing, mark: Mark) -> bool
 
 /// A sign of it, as it looks in the picture.
 fn sign(mark: Mark) -> &'static [u8]
-    ensures { result.now ≡ mark_sign mark }
+    ensures { AreElements result.now }
 {
     match mark {
         Mark::Sends =>
@@ -167,7 +154,7 @@ fn sign(mark: Mark) -> &'static [u8]
 
 /// A word for it.
 fn word(mark: Mark) -> &'static [u8]
-    ensures { result.now ≡ mark_words mark }
+    ensures { AreElements result.now }
 {
     match mark {
         Mark::Sends => b"sends",
@@ -191,31 +178,42 @@ fn word(mark: Mark) -> &'static [u8]
     }
 }
 
-/// Appends the sign in this place, and its word. Six stand in a row.
+/// Appends elements, and plain text between them.
+fn put_elements(out: &mut Vec<u8>, text: &[u8]) -> Result<(), AllocError>
+    requires { AreElements text.now }
+    ensures { Elements out.old out.new result }
+{
+    put(out, text)
+}
+
+/// Appends where the sign in this place begins. Six stand in a row.
+fn put_opening(out: &mut Vec<u8>, place: u64) -> Result<(), AllocError>
+    requires few { place ≤ 100 }
+    ensures { Opens out.old out.new (codes "g") result }
+{
+    put_filled(
+        out,
+        &[b"<g class=\"sign\" transform=\"translate(", b" ", b")\">"],
+        &[14 + 126 * (place % 6), 44 + ROW * (place / 6)],
+    )
+}
+
+/// Appends the sign of a mark in this place, and its word.
 fn put_sign(out: &mut Vec<u8>, place: u64, mark: Mark) -> Result<(), AllocError>
     requires few { place ≤ 100 }
-    ensures { Appends out.old out.new (sign_text place mark) result }
+    ensures { Elements out.old out.new result }
 {
-    put_pieces(
-        out,
-        &[
-            Piece::Word(b"<g class=\"sign\" transform=\"translate("),
-            Piece::Number(14 + 126 * (place % 6)),
-            Piece::Word(b" "),
-            Piece::Number(44 + ROW * (place / 6)),
-            Piece::Word(b")\">"),
-            Piece::Word(sign(mark)),
-            Piece::Word(b"<text class=\"note\" x=\"34\" y=\"4\">"),
-            Piece::Word(word(mark)),
-            Piece::Word(b"</text></g>\n"),
-        ],
-    )
+    put_opening(out, place)?;
+    put_elements(out, sign(mark))?;
+    put(out, b"<text class=\"note\" x=\"34\" y=\"4\">")?;
+    put_elements(out, word(mark))?;
+    put(out, b"</text></g>\n")
 }
 
 /// Appends those of these marks that occur.
 fn put_signs(out: &mut Vec<u8>, drawing: &Drawing, marks: &[Mark]) -> Result<(), AllocError>
     requires few { length marks.now ≤ 100 }
-    ensures { Appends out.old out.new (signs_from drawing.now 0 marks.now) result }
+    ensures { Elements out.old out.new result }
 {
     let mut place = 0;
     for mark in marks {
@@ -232,7 +230,7 @@ fn put_signs(out: &mut Vec<u8>, drawing: &Drawing, marks: &[Mark]) -> Result<(),
 
 /// Appends a sign and a word for each mark that occurs.
 pub(crate) fn put_legend(out: &mut Vec<u8>, drawing: &Drawing) -> Result<(), AllocError>
-    ensures { Appends out.old out.new (legend_text drawing.now) result }
+    ensures { Elements out.old out.new result }
 {
     put_signs(
         out,

@@ -1,8 +1,6 @@
 //! The marks of ports: a form for each colour.
 
-ghost use Rattle.std.specs.Prelude.{◌≡◌};
-ghost use Rattle.hub_picture.specs.Pieces.{Appends};
-ghost use Rattle.hub_picture.specs.Svg.Marks.{hue_in, mark_at, mark_text, marks};
+ghost use Rattle.hub_picture.specs.Reading.{Elements};
 
 use super::rect::Rect;
 use crate::label::Label;
@@ -30,15 +28,13 @@ const MARKS: &[u8] =
 
 /// Appends the forms.
 pub(crate) fn put_marks(out: &mut Vec<u8>) -> Result<(), AllocError>
-    ensures { Appends out.old out.new marks result }
+    ensures { Elements out.old out.new result }
 {
     put(out, MARKS)
 }
 
 /// The number of the colour and the form of a label's port.
-pub(crate) fn hue_in(label: Label) -> Option<u64>
-    ensures { result ≡ hue_in label }
-{
+pub(crate) fn hue_in(label: Label) -> Option<u64> {
     match label {
         Label::Make(port) | Label::Send(port) | Label::Receive(port) => Some(hue(port)),
         Label::Close(port) | Label::Reopen(port) => Some(hue(port)),
@@ -48,7 +44,7 @@ pub(crate) fn hue_in(label: Label) -> Option<u64>
 
 /// Appends the mark of this number on the corner of a box.
 fn put_hue(out: &mut Vec<u8>, hue: u64, rect: Rect) -> Result<(), AllocError>
-    ensures { Appends out.old out.new (mark_text hue rect) result }
+    ensures { Elements out.old out.new result }
 {
     let x = rect.x.saturating_sub(3);
     let y = rect.y.saturating_sub(3);
@@ -66,7 +62,7 @@ fn put_hue(out: &mut Vec<u8>, hue: u64, rect: Rect) -> Result<(), AllocError>
 
 /// Appends a mark on the corner of a box, if it has one.
 pub(crate) fn put_mark(out: &mut Vec<u8>, hue: Option<u64>, rect: Rect) -> Result<(), AllocError>
-    ensures { Appends out.old out.new (mark_at hue rect) result }
+    ensures { Elements out.old out.new result }
 {
     match hue {
         Some(hue) => put_hue(out, hue, rect),

@@ -1,7 +1,6 @@
 //! Rectangles.
 
-ghost use Rattle.hub_picture.specs.Pieces.{Appends};
-ghost use Rattle.hub_picture.specs.Svg.Rects.{rect_text};
+ghost use Rattle.hub_picture.specs.Reading.{Elements};
 
 use crate::piece::put_filled;
 use std::alloc::AllocError;
@@ -19,14 +18,14 @@ pub(crate) struct Rect {
     pub height: u64,
 }
 
-/// Appends a rectangle, behind the title of its element.
+/// Appends a rectangle.
 pub(crate) fn put_rect(out: &mut Vec<u8>, rect: Rect) -> Result<(), AllocError>
-    ensures { Appends out.old out.new (rect_text rect) result }
+    ensures { Elements out.old out.new result }
 {
     put_filled(
         out,
         &[
-            b"</title><rect x=\"",
+            b"<rect x=\"",
             b"\" y=\"",
             b"\" width=\"",
             b"\" height=\"",

@@ -1,65 +1,45 @@
 //! What a select offered, in its box.
 
-ghost use Rattle.std.specs.Prelude.{◌≡◌, ◌++◌};
-ghost use Rattle.hub_picture.specs.Pieces.{Appends};
-ghost use Rattle.hub_picture.specs.Svg.Select.{box_offers, case_words, is_fired, offer_text, offers_from, offers_in};
-ghost use Rattle.hub_picture.specs.Svg.Select.{offers_of, offers_text, select_opening, select_text};
+ghost use Rattle.std.specs.Prelude.{codes};
+ghost use Rattle.hub_picture.specs.Reading.{Elements, Opens};
 
 use crate::Asked;
 use crate::frame::{Frame, Scale};
-use crate::label::last_told;
-use crate::piece::{put, put_filled};
+use crate::label::{case_label, last_told};
+use crate::piece::{Piece, put, put_filled, put_pieces};
 use hub_base::{Case, Step, What};
 use std::alloc::AllocError;
 
-/// Appends a case.
-fn put_case(out: &mut Vec<u8>, case: Case) -> Result<(), AllocError>
-    ensures { Appends out.old out.new (case_words case) result }
-{
-    match case {
-        Case::Send(port, _value) => put_filled(out, &[b"s"], &[port.0.into()]),
-        Case::Recv(port) => put_filled(out, &[b"r"], &[port.0.into()]),
-    }
-}
-
 /// Whether the case at this place fired.
-fn is_fired(what: What, place: usize) -> bool
-    ensures { result ≡ is_fired what place }
-{
+fn is_fired(what: What, place: usize) -> bool {
     match what {
         What::Fired { case, .. } => usize::from(case) == place,
         _ => false,
     }
 }
 
-/// Appends a case between these words.
-fn put_between(
-    out: &mut Vec<u8>,
-    before: &[u8],
-    case: Case,
-    behind: &[u8],
-) -> Result<(), AllocError>
-    ensures { Appends out.old out.new (before.now ++ case_words case ++ behind.now) result }
-{
-    put(out, before)?;
-    put_case(out, case)?;
-    put(out, behind)
-}
-
 /// Appends a case, so that the one that fired stands out.
 fn put_offer(out: &mut Vec<u8>, fired: bool, case: Case) -> Result<(), AllocError>
-    ensures { Appends out.old out.new (offer_text fired case) result }
+    ensures { Elements out.old out.new result }
 {
+    let label = Piece::Name(case_label(Some(case)));
     if fired {
-        put_between(out, b"<tspan class=\"fired\">", case, b"</tspan> ")
+        put_pieces(
+            out,
+            &[
+                Piece::Word(b"<tspan class=\"fired\">"),
+                label,
+                Piece::Word(b"</tspan> "),
+            ],
+        )
     } else {
-        put_between(out, b"", case, b" ")
+        put_pieces(out, &[label, Piece::Word(b" ")])
     }
 }
 
 /// Appends these cases.
 fn put_offers(out: &mut Vec<u8>, what: What, cases: &[Case]) -> Result<(), AllocError>
-    ensures { Appends out.old out.new (offers_from what 0 cases.now) result }
+    ensures { Elements out.old out.new result }
 {
     for (place, case) in cases.iter().enumerate() {
         match put_offer(out, is_fired(what, place), *case) {
@@ -72,7 +52,7 @@ fn put_offers(out: &mut Vec<u8>, what: What, cases: &[Case]) -> Result<(), Alloc
 
 /// Appends them, or how many there are.
 fn put_some(out: &mut Vec<u8>, what: What, cases: &[Case]) -> Result<(), AllocError>
-    ensures { Appends out.old out.new (offers_text what cases.now) result }
+    ensures { Elements out.old out.new result }
 {
     if cases.len() <= 4 {
         put_offers(out, what, cases)
@@ -83,7 +63,7 @@ fn put_some(out: &mut Vec<u8>, what: What, cases: &[Case]) -> Result<(), AllocEr
 
 /// Appends where they begin.
 fn put_opening(out: &mut Vec<u8>, frame: Frame, asked: &Asked) -> Result<(), AllocError>
-    ensures { Appends out.old out.new (select_opening frame asked.now) result }
+    ensures { Opens out.old out.new (codes "text") result }
 {
     put_filled(
         out,
@@ -99,7 +79,7 @@ fn put_select(
     asked: &Asked,
     cases: &[Case],
 ) -> Result<(), AllocError>
-    ensures { Appends out.old out.new (select_text frame asked.now cases.now) result }
+    ensures { Elements out.old out.new result }
 {
     put_opening(out, frame, asked)?;
     put_some(out, last_told(asked.ended), cases)?;
@@ -107,22 +87,10 @@ fn put_select(
 }
 
 /// The cases of a select.
-fn offers_of(step: &Step) -> &[Case]
-    ensures { result.now ≡ offers_of step.now }
-{
+fn offers_of(step: &Step) -> &[Case] {
     match step {
         Step::Call { cases, .. } if cases.len() >= 2 => cases.as_slice(),
         _ => &[],
-    }
-}
-
-/// Appends these, where there is room for it.
-fn put_in(out: &mut Vec<u8>, frame: Frame, asked: &Asked, cases: &[Case]) -> Result<(), AllocError>
-    ensures { Appends out.old out.new (offers_in frame.scale frame asked.now cases.now) result }
-{
-    match frame.scale {
-        Scale::Wide if !cases.is_empty() => put_select(out, frame, asked, cases),
-        _ => Ok(()),
     }
 }
 
@@ -132,7 +100,11 @@ pub(crate) fn put_box_offers(
     frame: Frame,
     asked: &Asked,
 ) -> Result<(), AllocError>
-    ensures { Appends out.old out.new (box_offers frame asked.now) result }
+    ensures { Elements out.old out.new result }
 {
-    put_in(out, frame, asked, offers_of(&asked.entry.step))
+    let cases = offers_of(&asked.entry.step);
+    match frame.scale {
+        Scale::Wide if !cases.is_empty() => put_select(out, frame, asked, cases),
+        _ => Ok(()),
+    }
 }

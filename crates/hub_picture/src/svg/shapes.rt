@@ -1,13 +1,5 @@
 //! The shapes of a drawing that some bands show.
 
-ghost use Rattle.std.specs.Prelude.{◌≡◌, IfOk, Bool, filter};
-ghost use Rattle.hub_picture.specs.Drawings.{is_shown};
-ghost use Rattle.hub_picture.specs.Levels.{shows_level};
-ghost use Rattle.hub_picture.specs.Pieces.{nows};
-ghost use Rattle.hub_picture.specs.Svg.Arrows.{has_end};
-ghost use Rattle.hub_picture.specs.Svg.Shapes.{AreAll, IsPart};
-ghost use Rattle.hub_picture.specs.Svg.Stalls.{is_by_one_of};
-
 use crate::asked::{Shown, ended_by, shows};
 use crate::levels::shows_level;
 use crate::{Arrow, Asked, Drawing, Held, Window};
@@ -16,12 +8,8 @@ use std::alloc::{AllocError, Global};
 
 /// Which things are shown.
 trait Shows<T> {
-    /// Whether one is.
-    ghost test: { Self → T → Bool };
-
-    /// The same.
-    fn shows(&self, thing: &T) -> bool
-        ensures { result ≡ test self.now thing.now };
+    /// Whether this one is.
+    fn shows(&self, thing: &T) -> bool;
 }
 
 /// Boxes or bars of entries, as these steps show them.
@@ -29,48 +17,36 @@ trait Shows<T> {
 struct Those(Shown, Window);
 
 impl Shows<Asked> for Those {
-    ghost test = { λ those. is_shown those.0 those.1 };
-
     fn shows(&self, asked: &Asked) -> bool {
         shows(self.0, self.1, asked.place, ended_by(asked.ended))
     }
 }
 
 impl Shows<Arrow> for Window {
-    ghost test = { has_end };
-
     fn shows(&self, arrow: &Arrow) -> bool {
         has_end(*self, arrow)
     }
 }
 
 impl Shows<Held> for Window {
-    ghost test = { shows_level };
-
     fn shows(&self, held: &Held) -> bool {
         shows_level(*self, held)
     }
 }
 
 impl Shows<Told> for Window {
-    ghost test = { is_by_one_of };
-
     fn shows(&self, told: &Told) -> bool {
         self.has(told.by)
     }
 }
 
 /// Whether one of these steps is an end of the arrow.
-pub(crate) fn has_end(steps: Window, arrow: &Arrow) -> bool
-    ensures { result ≡ has_end steps arrow.now }
-{
+pub(crate) fn has_end(steps: Window, arrow: &Arrow) -> bool {
     steps.has(arrow.passage.sent.told.by) || steps.has(arrow.passage.received.told.by)
 }
 
 /// All of these things.
-fn all_of<T>(alloc: Global, things: &[T]) -> Result<Vec<&T>, AllocError>
-    ensures { IfOk result (λ all. nows all.items ≡ things.now) }
-{
+fn all_of<T>(alloc: Global, things: &[T]) -> Result<Vec<&T>, AllocError> {
     let mut all = Vec::new(alloc);
     for thing in things {
         all.push(thing)?;
@@ -83,9 +59,7 @@ fn shown_of<'a, T, S: Shows<T>>(
     alloc: Global,
     shows: &S,
     things: &[&'a T],
-) -> Result<Vec<&'a T>, AllocError>
-    ensures { IfOk result (λ all. nows all.items ≡ filter (S.test shows.now) (nows things.now)) }
-{
+) -> Result<Vec<&'a T>, AllocError> {
     let mut all = Vec::new(alloc);
     for thing in things {
         if shows.shows(*thing) {
@@ -112,9 +86,7 @@ pub(crate) struct Shapes<'a> {
 
 impl<'a> Shapes<'a> {
     /// All of a drawing.
-    pub fn of(alloc: Global, drawing: &'a Drawing) -> Result<Shapes<'a>, AllocError>
-        ensures { IfOk result (λ shapes. AreAll drawing.entry.now shapes) }
-    {
+    pub fn of(alloc: Global, drawing: &'a Drawing) -> Result<Shapes<'a>, AllocError> {
         Ok(Shapes {
             stalls: all_of(alloc, &drawing.stalls)?,
             levels: all_of(alloc, &drawing.levels)?,
@@ -125,9 +97,7 @@ impl<'a> Shapes<'a> {
     }
 
     /// Those of them that these steps show.
-    pub fn within(&self, alloc: Global, steps: Window) -> Result<Shapes<'a>, AllocError>
-        ensures { IfOk result (λ part. IsPart steps self.now part) }
-    {
+    pub fn within(&self, alloc: Global, steps: Window) -> Result<Shapes<'a>, AllocError> {
         Ok(Shapes {
             stalls: shown_of(alloc, &steps, &self.stalls)?,
             levels: shown_of(alloc, &steps, &self.levels)?,

@@ -1,9 +1,7 @@
 //! The strips of ports, and their levels.
 
-ghost use Rattle.std.specs.Prelude.{◌≡◌};
-ghost use Rattle.hub_picture.specs.Pieces.{Appends};
-ghost use Rattle.hub_picture.specs.Svg.Strips.{count_of, drawn_level, height, level_in, level_opening, level_rect, level_text};
-ghost use Rattle.hub_picture.specs.Svg.Strips.{level_title, stay_in, stay_text, strip_body, strip_text, strip_title};
+ghost use Rattle.std.specs.Prelude.{codes};
+ghost use Rattle.hub_picture.specs.Reading.{Elements, Opens};
 
 use super::rect::{Rect, put_rect};
 use crate::frame::{FULL, Frame, LEFT, number_of};
@@ -11,39 +9,40 @@ use crate::levels::shows_level;
 use crate::pen::Pen;
 use crate::piece::{Piece, hue, put, put_filled, put_pieces};
 use crate::{Held, Strip};
-use hub_base::Port;
 use hub_story::Level;
 use std::alloc::AllocError;
 
 /// How high so many values stand, of those that there is room for.
-fn height(room: u32, count: u64) -> u64
-    ensures { result ≡ height room count }
-{
+fn height(room: u32, count: u64) -> u64 {
     let most = u64::from(room).max(1);
     (count.min(room.into()) * FULL + most - 1) / most
 }
 
-/// Appends what is told where one points at a strip.
-fn put_strip_title(out: &mut Vec<u8>, strip: &Strip) -> Result<(), AllocError>
-    ensures { Appends out.old out.new (strip_title strip.now) result }
+/// Appends where a strip begins, and what is told where one points at it.
+fn put_strip_opening(out: &mut Vec<u8>, strip: &Strip) -> Result<(), AllocError>
+    ensures { Opens out.old out.new (codes "g") result }
 {
     put_filled(
         out,
-        &[b"port ", b" has room for ", b"\n"],
+        &[
+            b"<g class=\"strip\"><title>port ",
+            b" has room for ",
+            b"\n</title>",
+        ],
         &[strip.port.0.into(), strip.room.into()],
     )
 }
 
 /// Appends its floor, where it is full, and its name.
 fn put_strip_body(out: &mut Vec<u8>, frame: Frame, strip: &Strip) -> Result<(), AllocError>
-    ensures { Appends out.old out.new (strip_body frame strip.now) result }
+    ensures { Elements out.old out.new result }
 {
     let (end, floor) = (frame.x(frame.steps.end), frame.floor(strip.row));
     let full = height(strip.room, strip.room.into());
     put_filled(
         out,
         &[
-            b"</title><path d=\"M",
+            b"<path d=\"M",
             b" ",
             b"H",
             b"M",
@@ -55,7 +54,7 @@ fn put_strip_body(out: &mut Vec<u8>, frame: Frame, strip: &Strip) -> Result<(), 
             b"</text><use class=\"mark h",
             b"\" href=\"#k",
             b"\" x=\"4\" y=\"",
-            b"\"/></g>\n",
+            b"\"/>",
         ],
         &[
             LEFT,
@@ -76,37 +75,28 @@ fn put_strip_body(out: &mut Vec<u8>, frame: Frame, strip: &Strip) -> Result<(), 
 
 /// Strips of ports, in the band.
 impl Pen<Strip> for Frame {
-    ghost text = { strip_text };
-
     fn put(&self, out: &mut Vec<u8>, strip: &Strip) -> Result<(), AllocError> {
-        put(out, b"<g class=\"strip\"><title>")?;
-        put_strip_title(out, strip)?;
-        put_strip_body(out, *self, strip)
+        put_strip_opening(out, strip)?;
+        put_strip_body(out, *self, strip)?;
+        put(out, b"</g>\n")
     }
 }
 
 /// How many values a port of this level holds.
-fn count_of(level: Level) -> u64
-    ensures { result ≡ count_of level }
-{
+fn count_of(level: Level) -> u64 {
     level.sent.saturating_sub(level.received) as u64
 }
 
-/// Appends the class of a level.
-fn put_opening(out: &mut Vec<u8>, port: Port) -> Result<(), AllocError>
-    ensures { Appends out.old out.new (level_opening port) result }
-{
-    put_filled(out, &[b"<g class=\"level h", b"\"><title>"], &[hue(port)])
-}
-
-/// Appends what is told where one points at it.
-fn put_level_title(out: &mut Vec<u8>, held: &Held) -> Result<(), AllocError>
-    ensures { Appends out.old out.new (level_title held.now) result }
+/// Appends where a level begins, and what is told where one points at it.
+fn put_level_opening(out: &mut Vec<u8>, held: &Held) -> Result<(), AllocError>
+    ensures { Opens out.old out.new (codes "g") result }
 {
     put_pieces(
         out,
         &[
-            Piece::Word(b"port "),
+            Piece::Word(b"<g class=\"level h"),
+            Piece::Number(hue(held.strip.port)),
+            Piece::Word(b"\"><title>port "),
             Piece::Number(held.strip.port.0.into()),
             Piece::Word(b" holds "),
             Piece::Number(count_of(held.level)),
@@ -115,15 +105,13 @@ fn put_level_title(out: &mut Vec<u8>, held: &Held) -> Result<(), AllocError>
             Piece::Word(b" from step "),
             Piece::Number(number_of(held.from)),
             Piece::Until(held.until),
-            Piece::Word(b"\n"),
+            Piece::Word(b"\n</title>"),
         ],
     )
 }
 
 /// Where the level stands.
-fn rect_of(frame: Frame, held: &Held) -> Rect
-    ensures { result ≡ level_rect frame held.now }
-{
+fn rect_of(frame: Frame, held: &Held) -> Rect {
     let x = frame.x(held.from);
     let end = frame.x(frame.until(held.until));
     let high = height(held.strip.room, count_of(held.level));
@@ -137,7 +125,7 @@ fn rect_of(frame: Frame, held: &Held) -> Rect
 
 /// Appends how many values stay behind a level.
 fn put_stay(out: &mut Vec<u8>, frame: Frame, held: &Held) -> Result<(), AllocError>
-    ensures { Appends out.old out.new (stay_text frame held.now) result }
+    ensures { Elements out.old out.new result }
 {
     put_filled(
         out,
@@ -157,7 +145,7 @@ fn put_stay(out: &mut Vec<u8>, frame: Frame, held: &Held) -> Result<(), AllocErr
 
 /// The same where it stays so.
 fn put_stay_in(out: &mut Vec<u8>, frame: Frame, held: &Held) -> Result<(), AllocError>
-    ensures { Appends out.old out.new (stay_in frame held.now held.now.until) result }
+    ensures { Elements out.old out.new result }
 {
     match held.until {
         Some(_until) => Ok(()),
@@ -165,28 +153,18 @@ fn put_stay_in(out: &mut Vec<u8>, frame: Frame, held: &Held) -> Result<(), Alloc
     }
 }
 
-/// Appends the level, what stays, and the end of the element.
-fn put_drawn(out: &mut Vec<u8>, frame: Frame, held: &Held) -> Result<(), AllocError>
-    ensures { Appends out.old out.new (drawn_level frame held.now) result }
+/// Appends a level, and what stays behind it.
+fn put_level(out: &mut Vec<u8>, frame: Frame, held: &Held) -> Result<(), AllocError>
+    ensures { Elements out.old out.new result }
 {
+    put_level_opening(out, held)?;
     put_rect(out, rect_of(frame, held))?;
     put_stay_in(out, frame, held)?;
     put(out, b"</g>\n")
 }
 
-/// Appends a level.
-fn put_level(out: &mut Vec<u8>, frame: Frame, held: &Held) -> Result<(), AllocError>
-    ensures { Appends out.old out.new (level_text frame held.now) result }
-{
-    put_opening(out, held.strip.port)?;
-    put_level_title(out, held)?;
-    put_drawn(out, frame, held)
-}
-
 /// Levels, where the band shows them.
 impl Pen<Held> for Frame {
-    ghost text = { level_in };
-
     fn put(&self, out: &mut Vec<u8>, held: &Held) -> Result<(), AllocError> {
         if shows_level(self.steps, held) {
             put_level(out, *self, held)

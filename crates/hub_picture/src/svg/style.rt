@@ -1,7 +1,6 @@
 //! How shapes look.
 
-ghost use Rattle.hub_picture.specs.Pieces.{Appends};
-ghost use Rattle.hub_picture.specs.Svg.Style.{style};
+ghost use Rattle.hub_picture.specs.Reading.{Elements};
 
 use crate::piece::put;
 use std::alloc::AllocError;
@@ -41,7 +40,7 @@ const STYLE: &[u8] =
 
 /// Appends the rules of the style.
 pub(crate) fn put_style(out: &mut Vec<u8>) -> Result<(), AllocError>
-    ensures { Appends out.old out.new style result }
+    ensures { Elements out.old out.new result }
 {
     put(out, STYLE)
 }

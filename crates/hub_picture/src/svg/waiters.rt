@@ -1,8 +1,7 @@
 //! The rows of those who wait in vain, and of those who are outside the hub.
 
-ghost use Rattle.std.specs.Prelude.{◌≡◌};
-ghost use Rattle.hub_picture.specs.Pieces.{Appends};
-ghost use Rattle.hub_picture.specs.Svg.Waiters.{deadlock_text, gone_words, last_words, outsider_text, waiter_text, waiter_told, waiter_words};
+ghost use Rattle.std.specs.Prelude.{codes};
+ghost use Rattle.hub_picture.specs.Reading.{Elements, Opens};
 
 use super::whom::put_whom_words;
 use crate::frame::number_of;
@@ -13,20 +12,11 @@ use hub_base::Case;
 use hub_story::{Outsider, Told};
 use std::alloc::AllocError;
 
-/// That all who received there have left, where a case sends, and this is so.
-fn gone_words(case: Case, gone: bool) -> &'static [u8]
-    ensures { result.now ≡ gone_words case gone }
-{
-    match case {
-        Case::Send(_port, _value) if gone => b"; all who received there have left",
-        _ => b"",
-    }
-}
-
 /// Appends what is told of a waiter.
 fn put_words(out: &mut Vec<u8>, waiter: &Waiter) -> Result<(), AllocError>
-    ensures { Appends out.old out.new (waiter_words waiter.now) result }
+    ensures { Elements out.old out.new result }
 {
+    let gone = waiter.gone && matches!(waiter.case, Case::Send(..));
     put_pieces(
         out,
         &[
@@ -39,23 +29,15 @@ fn put_words(out: &mut Vec<u8>, waiter: &Waiter) -> Result<(), AllocError>
             Piece::Mover(waiter.sender),
             Piece::Word(b", last received by "),
             Piece::Mover(waiter.receiver),
-            Piece::Word(gone_words(waiter.case, waiter.gone)),
+            Piece::If(gone, b"; all who received there have left"),
             Piece::Word(b". "),
         ],
     )
 }
 
-/// Appends it with for whom it waits, where everyone waits.
-fn put_told(out: &mut Vec<u8>, drawing: &Drawing, waiter: &Waiter) -> Result<(), AllocError>
-    ensures { Appends out.old out.new (waiter_told drawing.now waiter.now) result }
-{
-    put_words(out, waiter)?;
-    put_whom_words(out, waiter.whom)
-}
-
 /// Appends, where anyone was stalled, what that is.
 pub(crate) fn put_deadlock(out: &mut Vec<u8>, stalls: &[Told]) -> Result<(), AllocError>
-    ensures { Appends out.old out.new (deadlock_text stalls.now) result }
+    ensures { Elements out.old out.new result }
 {
     match stalls {
         [] => Ok(()),
@@ -71,18 +53,31 @@ pub(crate) fn put_deadlock(out: &mut Vec<u8>, stalls: &[Told]) -> Result<(), All
 pub(crate) struct Rows<'a>(pub &'a Drawing);
 
 impl Pen<Waiter> for Rows<'_> {
-    ghost text = { λ pen. waiter_text pen.0.now };
-
     fn put(&self, out: &mut Vec<u8>, waiter: &Waiter) -> Result<(), AllocError> {
         put(out, b"<tspan class=\"waits\" x=\"12\" dy=\"18\">")?;
-        put_told(out, self.0, waiter)?;
+        put_words(out, waiter)?;
+        put_whom_words(out, waiter.whom)?;
         put(out, b"</tspan>\n")
     }
 }
 
+/// Appends who is outside, where a row begins.
+fn put_outsider(out: &mut Vec<u8>, outsider: &Outsider) -> Result<(), AllocError>
+    ensures { Opens out.old out.new (codes "tspan") result }
+{
+    put_filled(
+        out,
+        &[
+            b"<tspan class=\"outside\" x=\"12\" dy=\"18\">P",
+            b" is outside the hub",
+        ],
+        &[outsider.pid.0.into()],
+    )
+}
+
 /// Appends a last step.
 fn put_last(out: &mut Vec<u8>, last: Option<u32>) -> Result<(), AllocError>
-    ensures { Appends out.old out.new (last_words last) result }
+    ensures { Elements out.old out.new result }
 {
     match last {
         Some(place) => put_filled(out, &[b", last at step ", b"."], &[number_of(place)]),
@@ -95,17 +90,8 @@ fn put_last(out: &mut Vec<u8>, last: Option<u32>) -> Result<(), AllocError>
 pub(crate) struct OutsideRows;
 
 impl Pen<Outsider> for OutsideRows {
-    ghost text = { λ _. outsider_text };
-
     fn put(&self, out: &mut Vec<u8>, outsider: &Outsider) -> Result<(), AllocError> {
-        put_filled(
-            out,
-            &[
-                b"<tspan class=\"outside\" x=\"12\" dy=\"18\">P",
-                b" is outside the hub",
-            ],
-            &[outsider.pid.0.into()],
-        )?;
+        put_outsider(out, outsider)?;
         put_last(out, outsider.last)?;
         put(out, b"</tspan>\n")
     }

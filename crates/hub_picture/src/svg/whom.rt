@@ -1,8 +1,7 @@
 //! Who may wait for whom where everyone waits.
 
 ghost use Rattle.std.specs.Prelude.{◌≡◌, ◌≤◌};
-ghost use Rattle.hub_picture.specs.Pieces.{Appends};
-ghost use Rattle.hub_picture.specs.Svg.Whom.{field_end, pulled, tip_of, whom_arc, whom_in, whom_text, whom_words};
+ghost use Rattle.hub_picture.specs.Reading.{Elements};
 
 use crate::frame::Frame;
 use crate::pen::Pen;
@@ -13,7 +12,7 @@ use std::alloc::AllocError;
 
 /// Appends in words for whom a call perhaps waits.
 pub(crate) fn put_whom_words(out: &mut Vec<u8>, whom: Option<u8>) -> Result<(), AllocError>
-    ensures { Appends out.old out.new (whom_words whom) result }
+    ensures { Elements out.old out.new result }
 {
     match whom {
         Some(pid) => put_filled(out, &[b"Perhaps it waits for P", b". "], &[pid.into()]),
@@ -23,30 +22,25 @@ pub(crate) fn put_whom_words(out: &mut Vec<u8>, whom: Option<u8>) -> Result<(), 
 
 /// Where the shaded fields end, on the right of which an arc stands.
 fn field_end(frame: Frame, told: &Told) -> u64
-    ensures value { result ≡ field_end frame told.now }
     ensures most { result ≤ 2199023255552 }
 {
     frame.x(told.by) + frame.scale.sizes().half
 }
 
 /// How far the ends of an arc are pulled out: upwards twice as far, so that it meets no arc that goes down.
-fn pulled(frame: Frame, told: &Told, other: u8) -> u64
-    ensures { result ≡ pulled frame told.now other }
-{
+fn pulled(frame: Frame, told: &Told, other: u8) -> u64 {
     let far = if told.event.pid.0 < other { 24 } else { 48 };
     field_end(frame, told) + far
 }
 
 /// The height of its tip: above the box of the other, where no box and no bar is.
-fn tip_of(frame: Frame, other: u8) -> u64
-    ensures { result ≡ tip_of frame other }
-{
+fn tip_of(frame: Frame, other: u8) -> u64 {
     frame.y(other) - frame.scale.sizes().size / 2 - 5
 }
 
 /// Appends an arc from the lane of the one who waits to the lane of the other.
 fn put_arc(out: &mut Vec<u8>, frame: Frame, told: &Told, other: u8) -> Result<(), AllocError>
-    ensures { Appends out.old out.new (whom_arc frame told.now other) result }
+    ensures { Elements out.old out.new result }
 {
     let near = field_end(frame, told);
     let far = pulled(frame, told, other);
@@ -89,7 +83,7 @@ fn put_whom(
     told: &Told,
     whom: Option<u8>,
 ) -> Result<(), AllocError>
-    ensures { Appends out.old out.new (whom_text frame told.now whom) result }
+    ensures { Elements out.old out.new result }
 {
     match whom {
         Some(other) => put_arc(out, frame, told, other),
@@ -102,8 +96,6 @@ fn put_whom(
 pub(crate) struct Arcs<'a>(pub Frame, pub &'a Drawing);
 
 impl Pen<Waiter> for Arcs<'_> {
-    ghost text = { λ pen. whom_in pen.0 pen.1.now };
-
     fn put(&self, out: &mut Vec<u8>, waiter: &Waiter) -> Result<(), AllocError> {
         if self.0.steps.has(waiter.told.by) {
             put_whom(out, self.0, &waiter.told, waiter.whom)

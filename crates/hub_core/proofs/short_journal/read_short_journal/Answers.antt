@@ -1,11 +1,8 @@
 use Rattle.hub_base.proofs.OneReading.{found-text, found-fits, found-fault}
 use Rattle.hub_core.proofs.short_journal.read_short_journal.Goals as goal
 
-pub returns-clause-found : goal.returns-clause-found
-returns-clause-found c = found-text c.args.bytes.now c.read_all.result c.read_all.ensures.gives
-
-pub returns-clause-fits : goal.returns-clause-fits
-returns-clause-fits c = found-fits c.args.bytes.now c.read_all.result c.read_all.ensures.gives
-
-pub returns-clause-faulty : goal.returns-clause-faulty
-returns-clause-faulty c = found-fault c.args.bytes.now c.read_all.result c.read_all.ensures.gives
+pub returns : goal.returns
+returns c =
+    let b = c.args.bytes.now in
+    let so = c.read_all.ensures in
+    record { found = found-text b _ so.gives; fits = found-fits b _ so.gives; faulty = found-fault b _ so.gives; exact = so.gives; memory = so.memory }

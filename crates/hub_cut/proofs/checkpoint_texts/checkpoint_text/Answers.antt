@@ -1,11 +1,12 @@
-use Rattle.std.proofs.Common.{◌≡◌, ◌++◌, ◌∙◌, sym, ap, subst, List, ℕ}
-use Rattle.std.specs.List.{AllByRecursion, flat_map}
+use Rattle.std.proofs.Common.{◌≡◌, ◌∙◌, ℕ, refl, sym, subst, List}
+use Rattle.std.specs.List.{AllByRecursion}
+use Rattle.std.specs.Global.{Vec}
+use Rattle.std.proofs.lemmas.Result.{IfOk-weaker}
 use Rattle.hub_base.specs.Entry.{Entry}
 use Rattle.hub_base.specs.declared.head.Head.{Head}
 use Rattle.hub_base.specs.Head.{AreOf, IsHead}
-use Rattle.hub_base.specs.Lines.{line}
-use Rattle.hub_base.specs.Reading.{head_lines}
-use Rattle.hub_base.specs.Text.{Fits}
+use Rattle.hub_base.specs.Reading.{text}
+use Rattle.hub_base.specs.Text.{Fits, IsText}
 use Rattle.hub_core.specs.HubView.{HubView, state_of}
 use Rattle.hub_chapters.specs.Checkpoint.{checkpoint}
 use Rattle.hub_chapters.proofs.Checkpoints.{checkpoint-law}
@@ -26,29 +27,17 @@ all_fit-requires c =
     written c.args.hub.now.memory.hub c.head-head.result c.deref.result.now c.head-head.ensures.value (c.deref.ensures.value ∙ c.in_ok-entries.ensures)
     c.journal_is_legal.ensures.fits
 
-pub write_lines-requires : goal.write_lines-requires
-write_lines-requires c = record {
-  fits = written c.args.hub.now.memory.hub c.head-head.result c.deref-2.result.now c.head-head.ensures.value (c.deref-2.ensures.value
-      ∙ c.in_ok-entries.ensures)
-      c.journal_is_legal.ensures.fits;
-}
-
 pub returns : goal.returns
 returns c =
     let hub = c.args.hub.now.memory.hub in
-    let head = c.head-head.result in
     let cp : List Entry = checkpoint (state_of hub) in
-    let lines : List ℕ = flat_map line c.deref-2.result.now in
-    let is : head ≡ hub.terms.head = c.head-head.ensures.value in
+    let is : c.head-head.result ≡ hub.terms.head = c.head-head.ensures.value in
     let same : c.deref.result.now ≡ cp = c.deref.ensures.value ∙ c.in_ok-entries.ensures in
-    let same' : c.deref-2.result.now ≡ cp = c.deref-2.ensures.value ∙ c.in_ok-entries.ensures in
-    let first : c.write_head.new.out.items ≡ head_lines head =
-    c.in_ok-write_head.ensures.ok ∙ ap (λ (xs : List ℕ). xs ++ head_lines head) c.new-text.ensures.items in
-    let spelled : c.write_lines.new.out.items ≡ head_lines hub.terms.head ++ flat_map line cp =
-    c.in_ok-write_lines.ensures ∙ ap (λ (xs : List ℕ). xs ++ lines) first ∙ ap (λ (h : Head). head_lines h ++ lines) is
-    ∙ ap (λ (es : List Entry). head_lines hub.terms.head ++ flat_map line es) same' in
     let fits : AllByRecursion (Fits hub.terms.head.edition) cp =
     subst (λ (es : List Entry). AllByRecursion (Fits hub.terms.head.edition) es) same
     (subst (λ (h : Head). AllByRecursion (Fits h.edition) c.deref.result.now) is c.all_fit.ensures) in
     let range : IsHead hub.terms.head = subst (λ (h : Head). IsHead h) is c.head-head.ensures.range in
-    checkpoint_is_text hub.terms.head hub.journal c.write_lines.new.out.items range fits spelled
+    let journal = c.of.result in
+    let spelled : text journal.head journal.entries ≡ text hub.terms.head cp = rw (c.of.ensures, c.in_ok-entries.ensures, is) refl in
+    IfOk-weaker c.text_of-2.result (λ (t : Vec ℕ). t.items ≡ text journal.head journal.entries) (λ (t : Vec ℕ). IsText t.items hub.terms.head cp)
+    (λ t h. checkpoint_is_text hub.terms.head hub.journal t.items range fits (h ∙ spelled)) c.text_of-2.ensures

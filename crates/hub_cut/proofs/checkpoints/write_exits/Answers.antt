@@ -1,11 +1,9 @@
-use Rattle.std.proofs.Common.{◌∙◌, ◌+◌, ◌++◌, ◌≡◌, ◌∷◌, [], ap, arith, map, cond, filter}
-use Rattle.hub_base.specs.declared.head.Head.{Head}
+use Rattle.std.proofs.Common.{◌∙◌, ◌+◌, ◌++◌, ◌∷◌, [], ap, map, cond, filter}
 use Rattle.std.specs.List.{range_with_len}
 use Rattle.hub_base.specs.Steps.{has_gone}
 use Rattle.hub_core.specs.HubView.{state_of}
 use Rattle.hub_base.specs.Notation.{exit}
-use Rattle.hub_laws.proofs.Lasting.{procs-after}
-use Rattle.hub_cut.proofs.Parts.{grown, gone_more}
+use Rattle.hub_cut.proofs.Parts.{at_procs, grown, gone_more}
 use Rattle.hub_cut.proofs.checkpoints.write_exits.Goals as goal
 
 pub loop-number-preserved : goal.loop-number-preserved
@@ -20,7 +18,5 @@ loop-number-preserved c =
 pub returns : goal.returns
 returns c =
     let hub = c.args.hub.now.memory.hub in
-    let procs = ap (λ (h : Head). h.procs) c.head-number-end.ensures.value in
-    let same : c.loop-number.number ≡ (state_of hub).head.procs =
-    omega (arith, procs, c.loop-number-test.false, c.loop-number.auto.number-end, procs-after hub.terms.head hub.journal) in
+    let same = at_procs hub _ _ c.head-number-end.ensures.value c.loop-number-test.false c.loop-number.auto.number-end in
     c.loop-number.invariant ∙ ap (λ n. c.args.entries.now.items ++ map exit (filter (has_gone (state_of hub)) (range_with_len 0 n))) same

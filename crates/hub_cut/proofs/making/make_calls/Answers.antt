@@ -7,11 +7,8 @@ use Rattle.hub_chapters.specs.Checkpoint.{call_again}
 use Rattle.hub_cut.specs.Cut.{CanMake, Makes}
 use Rattle.hub_cut.specs.Written.{one_of}
 use Rattle.hub_cut.proofs.Parts.{all_calls, calls_more}
-use Rattle.hub_cut.proofs.Renewing.{can_grow, made_more, made_none}
+use Rattle.hub_cut.proofs.Renewing.{can_grow, made_more}
 use Rattle.hub_cut.proofs.making.make_calls.Goals as goal
-
-pub loop-place-init : goal.loop-place-init
-loop-place-init c = made_none c.args.next.now.memory.hub
 
 pub make_call-requires : goal.make_call-requires
 make_call-requires c =

@@ -1,4 +1,4 @@
-use Rattle.std.proofs.Common.{◌≡◌, ◌∷◌, [], ap, arith, cond, filter, map, subst, ℕ}
+use Rattle.std.proofs.Common.{◌∷◌, [], ap, arith, cond, filter, map, subst, ℕ}
 use Rattle.std.specs.Prelude.{List}
 use Rattle.std.specs.List.{range_with_len}
 use Rattle.hub_base.specs.declared.head.Head.{Head}
@@ -9,8 +9,8 @@ use Rattle.hub_base.specs.Steps.{has_gone}
 use Rattle.hub_core.specs.HubView.{state_of}
 use Rattle.hub_cut.specs.Cut.{Makes}
 use Rattle.hub_laws.proofs.Lasting.{procs-after}
-use Rattle.hub_cut.proofs.Parts.{gone_more}
-use Rattle.hub_cut.proofs.Renewing.{can_grow, made_more, made_none}
+use Rattle.hub_cut.proofs.Parts.{at_procs, gone_more}
+use Rattle.hub_cut.proofs.Renewing.{can_grow, made_more}
 use Rattle.hub_cut.proofs.making.make_exits.Goals as goal
 
 -- the exits of those that have gone with a number below n, and the next
@@ -19,9 +19,6 @@ exits_below s n = map exit (filter (has_gone s) (range_with_len 0 n))
 
 abbrev exit_at : State → ℕ → List Entry
 exit_at s n = map exit (cond (has_gone s n) (n ∷ []) [])
-
-pub loop-number-init : goal.loop-number-init
-loop-number-init c = made_none c.args.next.now.memory.hub
 
 pub make_exit-requires : goal.make_exit-requires
 make_exit-requires c =
@@ -44,7 +41,5 @@ loop-number-preserved c =
 pub returns : goal.returns
 returns c =
     let hub = c.args.hub.now.memory.hub in
-    let procs = ap (λ (h : Head). h.procs) c.head-number-end.ensures.value in
-    let same : c.loop-number.number ≡ (state_of hub).head.procs =
-    omega (arith, procs, c.loop-number-test.false, c.loop-number.auto.number-end, procs-after hub.terms.head hub.journal) in
+    let same = at_procs hub _ _ c.head-number-end.ensures.value c.loop-number-test.false c.loop-number.auto.number-end in
     subst (λ n. Makes c.args.next.now.memory.hub (exits_below (state_of hub) n) c.loop-number.next.memory.hub) same c.loop-number.invariant

@@ -7,11 +7,8 @@ use Rattle.hub_chapters.specs.Checkpoint.{ports_again}
 use Rattle.hub_cut.specs.Cut.{CanMake, Makes}
 use Rattle.hub_cut.specs.Written.{port_entries}
 use Rattle.hub_cut.proofs.Parts.{all_ports, ports_more}
-use Rattle.hub_cut.proofs.Renewing.{can_grow, made_more, made_none}
+use Rattle.hub_cut.proofs.Renewing.{can_grow, made_more}
 use Rattle.hub_cut.proofs.making.make_ports.Goals as goal
-
-pub loop-index-init : goal.loop-index-init
-loop-index-init c = made_none c.args.next.now.memory.hub
 
 pub make_port-requires : goal.make_port-requires
 make_port-requires c =

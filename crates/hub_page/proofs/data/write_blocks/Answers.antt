@@ -46,8 +46,7 @@ returns-in_err-rest-clause-beginning g c =
     let n = c.loop-number.number in
     let count = block_count (length (entries_of k)) in
     let below : n < count = rw (c.block_count-number-end.ensures.value, c.len.ensures, c.entries.ensures) at c.loop-number-test.true in
-    let few : n ≤ count = omega (arith, below) in
-    on-err c.from_residual.result (blocks_of k n, _, text-split (block_of k) n count few, c.loop-number.invariant.written)
+    on-err c.from_residual.result (blocks_of k n, _, text-split (block_of k) n count (omega (arith, below)), c.loop-number.invariant.written)
 
 -- and so are these with a beginning of the next one
 pub returns-in_err-write_whole-clause-beginning : goal.returns-in_err-write_whole-clause-beginning

@@ -26,14 +26,11 @@ returns-then-is_moved-clause-found c =
 
 pub loop-place-preserved : goal.loop-place-preserved
 loop-place-preserved c =
-    let es = c.args.entries.now in
-    let ts = c.args.told.now in
-    let pick = sent_on c.args.port in
-    let i = c.loop-place.place in
-    let here = c.at.result.now in
-    let below : i < length ts = omega (arith, c.loop-place-test.true, c.len-place-end.ensures) in
-    let none = is-none (moved_by pick es here) (sym c.is_moved.ensures ∙ c.if-is_moved.false) in
-    c.loop-place.invariant ∙ moved-next pick es ts i here None below (sym none ∙ ap (moved_by pick es) c.at.ensures)
+    let pick = moved_by (sent_on c.args.port) c.args.entries.now in
+    let below : c.loop-place.place < length c.args.told.now = omega (arith, c.loop-place-test.true, c.len-place-end.ensures) in
+    let none = is-none (pick c.at.result.now) (sym c.is_moved.ensures ∙ c.if-is_moved.false) in
+    c.loop-place.invariant
+    ∙ moved-next (sent_on c.args.port) c.args.entries.now c.args.told.now c.loop-place.place c.at.result.now None below (sym none ∙ ap pick c.at.ensures)
 
 pub returns-clause-none : goal.returns-clause-none
 returns-clause-none c =

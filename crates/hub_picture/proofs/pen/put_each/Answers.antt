@@ -1,10 +1,11 @@
-use Rattle.hub_picture.proofs.Appended.{goes-on, part}
+use Rattle.hub_picture.proofs.Reading.{elements-more, elements-none, elements-so-far}
 use Rattle.hub_picture.proofs.pen.put_each.Goals as goal
 
-pub loop-thing-preserved : goal.loop-thing-preserved
-loop-thing-preserved g c =
-    goes-on (g.P.Pen.text c.args.pen.now) c.args.things.now c.loop-thing.thing-index c.thing-item.result _ _ _ c.loop-thing-test.true c.thing-item.is
-    c.loop-thing.invariant (rw c.in-Ok.is at c.put.ensures).ok
+pub loop-thing-init : goal.loop-thing-init
+loop-thing-init g c = elements-none
 
-pub returns-in-Err : goal.returns-in-Err
-returns-in-Err g c = part c.loop-thing.invariant.grown (rw c.in-Err.is at c.put.ensures).err
+pub loop-thing-preserved : goal.loop-thing-preserved
+loop-thing-preserved g c = elements-more c.loop-thing.invariant (rw c.in-Ok.is at c.put.ensures)
+
+pub returns : goal.returns
+returns g c = elements-so-far c.loop-thing.invariant

@@ -1,8 +1,11 @@
-use Rattle.std.proofs.Common.{◌≡◌, ℕ, List, ◌∙◌, ◌++◌, ap, subst, sym, codes, decimal, length, slice_get, []}
+use Rattle.std.proofs.Common.{◌≡◌, ℕ, List, ◌∙◌, ◌++◌, ap, arith, subst, sym, codes, decimal, length, slice_get, []}
 use Rattle.std.specs.Option.{option_map_or}
 use Rattle.hub_base.specs.Entry.{Entry}
 use Rattle.hub_story.specs.Levels.{received_by, sent_by}
 use Rattle.hub_story.specs.OfPorts.{things_on}
+use Rattle.hub_story.specs.Told.{told}
+use Rattle.hub_story.proofs.Filling.{told_by-all}
+use Rattle.hub_story.proofs.Ordered.{in-order}
 use Rattle.hub_story.specs.Passing.{receives, sends}
 use Rattle.hub_story_text.specs.Closers.{turns_on}
 use Rattle.hub_story_text.specs.declared.closers.Turns.{Turns}
@@ -18,47 +21,50 @@ use Rattle.hub_story_text.proofs.ports.put_port.Goals as goal
 pub fullest_on-requires-clause-sent : goal.fullest_on-requires-clause-sent
 fullest_on-requires-clause-sent c =
     let es = c.args.journal.now.entries in
-    let told = c.args.story.now.told.items in
-    subst (IsUp 0) (sym (sent-steps es told c.args.moves.now c.requires.moves c.args.port)) (steps-up (sent_on c.args.port) es 0 told c.requires.order)
+    let all = told c.args.journal.now.head es in
+    subst (IsUp 0) (sym (sent-steps es all c.args.moves.now c.requires.moves c.args.port))
+    (steps-up (sent_on c.args.port) es 0 all (in-order c.args.journal.now.head es))
 
 pub fullest_on-requires-clause-received : goal.fullest_on-requires-clause-received
 fullest_on-requires-clause-received c =
     let es = c.args.journal.now.entries in
-    let told = c.args.story.now.told.items in
-    subst (IsUp 0) (sym (received-steps es told c.args.moves.now c.requires.moves c.args.port)) (steps-up (got_on c.args.port) es 0 told c.requires.order)
+    let all = told c.args.journal.now.head es in
+    subst (IsUp 0) (sym (received-steps es all c.args.moves.now c.requires.moves c.args.port))
+    (steps-up (got_on c.args.port) es 0 all (in-order c.args.journal.now.head es))
 
 pub returns : goal.returns
 returns c =
     let es = c.args.journal.now.entries in
-    let told = c.args.story.now.told.items in
+    let all = told c.args.journal.now.head c.args.journal.now.entries in
+    let whole = told_by-all c.args.journal.now.head es (length es) (omega arith) in
     let p = c.args.port in
     let out = c.args.out.now.items in
-    let turns = turns_on es told p in
+    let turns = turns_on es all p in
     let are-turns : c.turns_on-reopened.result ≡ turns =
     c.turns_on-reopened.ensures ∙ ap (λ l. turns_on l c.args.turns.now p) c.entries.ensures ∙ ap (λ l. turns_on es l p) c.requires.turns
-    ∙ among-turns es p told in
+    ∙ among-turns es p all in
     let caps : ℕ → List ℕ = λ place. option_map_or (λ (e : Entry). cap_words e.step) (slice_get es place) [] in
-    let cap = caps (opened_at c.args.told.now turns.reopened) in
-    let sent : c.level.result.sent ≡ sent_by es told p (length es) =
-    c.level.ensures.sent es told c.requires.moves ∙ ap (λ l. length (sends es l p)) (sym c.requires.whole) in
-    let received : c.level.result.received ≡ received_by es told p (length es) =
-    c.level.ensures.received es told c.requires.moves ∙ ap (λ l. length (receives es l p)) (sym c.requires.whole) in
-    let counts = counts_words (sent_by es told p (length es)) (received_by es told p (length es)) in
-    let full = fullest es told p (length es) in
+    let cap = caps (opened_at c.args.made.now turns.reopened) in
+    let sent : c.level.result.sent ≡ sent_by es all p (length es) =
+    c.level.ensures.sent es all c.requires.moves ∙ ap (λ l. length (sends es l p)) (sym whole) in
+    let received : c.level.result.received ≡ received_by es all p (length es) =
+    c.level.ensures.received es all c.requires.moves ∙ ap (λ l. length (receives es l p)) (sym whole) in
+    let counts = counts_words (sent_by es all p (length es)) (received_by es all p (length es)) in
+    let full = fullest es all p (length es) in
     let is-full : c.in_ok-fullest_on.field-0 ≡ full =
     c.in_ok-fullest_on.ensures
-    ∙ ap (λ l. fullest_of l (steps_of (things_on c.args.moves.now.received p))) (sent-steps es told c.args.moves.now c.requires.moves p)
-    ∙ ap (fullest_of (moved_by_steps (sends es told p))) (received-steps es told c.args.moves.now c.requires.moves p)
-    ∙ fullest-is es told p (length es) c.requires.order c.requires.whole in
-    let made = by_words (codes " made by P") c.args.told.now in
+    ∙ ap (λ l. fullest_of l (steps_of (things_on c.args.moves.now.received p))) (sent-steps es all c.args.moves.now c.requires.moves p)
+    ∙ ap (fullest_of (moved_by_steps (sends es all p))) (received-steps es all c.args.moves.now c.requires.moves p)
+    ∙ fullest-is es all p (length es) (in-order c.args.journal.now.head es) whole in
+    let made = by_words (codes " made by P") c.args.made.now in
     let before = codes "port " ++ decimal p.0 in
     let at-number = two out c.put_number.new.out.items (codes "port ") (decimal p.0) (rw c.into.ensures at c.in_ok-put_number.ensures) in
     let at-cap = one-more out c.put_number.new.out.items c.put_cap.new.out.items before cap at-number
     (c.in_ok-put_cap.ensures ∙ ap (λ place. c.put_number.new.out.items ++ caps place) c.opened_at.ensures
-    ∙ ap (λ (t : Turns). c.put_number.new.out.items ++ caps (opened_at c.args.told.now t.reopened)) are-turns) in
+    ∙ ap (λ (t : Turns). c.put_number.new.out.items ++ caps (opened_at c.args.made.now t.reopened)) are-turns) in
     let at-counts = one-more out c.put_cap.new.out.items c.put_counts.new.out.items (before ++ cap) counts at-cap
     (c.in_ok-put_counts.ensures ∙ ap (λ n. c.put_cap.new.out.items ++ counts_words n c.level.result.received) sent
-    ∙ ap (λ n. c.put_cap.new.out.items ++ counts_words (sent_by es told p (length es)) n) received) in
+    ∙ ap (λ n. c.put_cap.new.out.items ++ counts_words (sent_by es all p (length es)) n) received) in
     let at-most = one-more out c.put_counts.new.out.items c.put_most.new.out.items (before ++ cap ++ counts) (most_words full) at-counts
     (c.in_ok-put_most.ensures ∙ ap (λ f. c.put_counts.new.out.items ++ most_words f) is-full) in
     let at-made = one-more out c.put_most.new.out.items c.put_by.new.out.items (before ++ cap ++ counts ++ most_words full) made at-most

@@ -1,10 +1,12 @@
-use Rattle.std.proofs.Common.{◌∙◌, ap, sym, arith, length}
-use Rattle.hub_story.specs.Levels.{told_by}
-use Rattle.hub_story.proofs.Filling.{told_by-all}
+use Rattle.std.proofs.Common.{◌∙◌, ap, length}
+use Rattle.std.proofs.lemmas.List.Sums.{length-filter}
+use Rattle.hub_story.specs.declared.told.Told.{Told}
+use Rattle.hub_story.specs.Partners.{is_made}
+use Rattle.hub_story.specs.Told.{told}
 use Rattle.hub_story_text.proofs.text.carried_of.Goals as goal
 
-pub put_ports-requires-clause-whole : goal.put_ports-requires-clause-whole
-put_ports-requires-clause-whole c =
-    let es = c.args.journal.now.entries in
-    let told = c.requires.story.told in
-    ap (told_by (length es)) told ∙ told_by-all c.args.journal.now.head es (length es) (omega arith) ∙ sym told
+pub returns-clause-partners : goal.returns-clause-partners
+returns-clause-partners c =
+    let all = told c.args.journal.now.head c.args.journal.now.entries in
+    let found = rw c.entries.ensures at c.in_ok-partners.ensures in
+    found all c.requires.moves (ap length c.requires.made ∙ length-filter (λ (t : Told). is_made t.event.what) all)

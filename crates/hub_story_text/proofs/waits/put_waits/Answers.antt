@@ -3,7 +3,13 @@ use Rattle.std.specs.List.{flat_map}
 use Rattle.hub_story_text.specs.Explained.{entries_of, told_of}
 use Rattle.hub_story_text.specs.Waits.{counts, line_at, longest, waits}
 use Rattle.hub_story_text.proofs.Chains.{on-ok, two, one-more, two-more}
+use Rattle.hub_story_text.proofs.Lateness.{longest-late}
 use Rattle.hub_story_text.proofs.waits.put_waits.Goals as goal
+
+pub put_longest-requires-clause-late : goal.put_longest-requires-clause-late
+put_longest-requires-clause-late c =
+    let e = c.args.explained.now in
+    rw (c.deref.ensures.value, c.requires.waits.longest) (longest-late e.journal.now.head (entries_of e) e.clock)
 
 pub returns : goal.returns
 returns c =
@@ -14,7 +20,7 @@ returns c =
     let waited = decimal (length (waits clock es told)) in
     let calls = decimal (count_by (counts clock) es) in
     let counted = rw c.entries.ensures at c.calls_of.ensures in
-    let first = two out c.put_number.new.out.items [] waited (rw c.in_ok-waits.ensures.count at c.in_ok-put_number.ensures) in
+    let first = two out c.put_number.new.out.items [] waited (rw c.requires.waits.count at c.in_ok-put_number.ensures) in
     let second = two-more out c.put_number.new.out.items c.put_number-2.new.out.items waited (codes " of ") calls first
     (rw counted at c.in_ok-put_number-2.ensures) in
     let words = codes " calls waited, the longest first, five at most\n" in
@@ -23,4 +29,4 @@ returns c =
     on-ok c.put_longest.result
     (one-more out c.extend_from_slice.new.self.items c.put_longest.new.out.items (waited ++ codes " of " ++ calls ++ words)
     (flat_map (line_at clock es told) (longest (waits clock es told))) heading)
-    (rw (c.deref.ensures.value, c.in_ok-waits.ensures.longest) at c.put_longest.ensures)
+    (rw (c.deref.ensures.value, c.requires.waits.longest) at c.put_longest.ensures)

@@ -1,7 +1,7 @@
-use Rattle.std.proofs.Common.{◌≡◌, ◌++◌, drop}
-use Rattle.std.specs.List.{flat_map}
-use Rattle.hub_trace.specs.Pieces.{piece_text}
+-- what grows by the other pieces grows by all
+use Rattle.std.proofs.Common.{ℕ, List, drop}
+use Rattle.hub_trace.specs.Pieces.{Chain}
 use Rattle.hub_trace.proofs.pieces.put_pieces.Given as goal
 
 abbrev pub invariant-loop-piece : goal.invariant-loop-piece
-invariant-loop-piece l = l.out.items ++ flat_map piece_text (drop l.piece-index l.pieces) ≡ l.fn.out.items ++ flat_map piece_text l.pieces
+invariant-loop-piece l = (new : List ℕ) → Chain (drop l.piece-index l.pieces) l.out.items new → Chain l.pieces l.fn.out.items new

@@ -7,12 +7,15 @@ use Rattle.hub_cut.specs.Texts.{AreWhole, IsAt, StandsAt}
 use Rattle.chanhub_tool.proofs.Held.{as_many, reads_next}
 use Rattle.chanhub_tool.proofs.commands.chain.check.Goals as goal
 
+-- no bytes
+abbrev none : Bor (List ℕ)
+none = record { ref_ptr = (0, 0); now = [] }
+
 pub loop-file-preserved : goal.loop-file-preserved
 loop-file-preserved g c = λ texts all.
     let i = c.loop-file.file-index in
     let files = c.args.files.now in
-    let gives : Bor (List ℕ) → Option (List ℕ) = λ f. g.S.Shelf.gives c.args.shelf.now f.now in
-    let none : Bor (List ℕ) = record { ref_ptr = (0, 0); now = [] } in
+    let gives = λ (f : Bor (List ℕ)). g.S.Shelf.gives c.args.shelf.now f.now in
     let at = reads_next gives i files texts (get_or files i none) c.in_ok-text.text.items c.deref.result.now all
     (slice_get-get_or files i none c.loop-file-test.true) c.in_ok-text.ensures c.deref.ensures.value in
     subst (λ (ts : List (List ℕ)). StandsAt c.in-Ok.longer ts) (sym at.next) (c.in-Ok.ensures.ok (take i texts) (c.loop-file.invariant texts all))
@@ -29,8 +32,7 @@ pub returns-in-Err-clause-err : goal.returns-in-Err-clause-err
 returns-in-Err-clause-err g c = λ read texts all whole.
     let i = c.loop-file.file-index in
     let files = c.args.files.now in
-    let gives : Bor (List ℕ) → Option (List ℕ) = λ f. g.S.Shelf.gives c.args.shelf.now f.now in
-    let none : Bor (List ℕ) = record { ref_ptr = (0, 0); now = [] } in
+    let gives = λ (f : Bor (List ℕ)). g.S.Shelf.gives c.args.shelf.now f.now in
     let at = reads_next gives i files texts (get_or files i none) c.in_ok-text.text.items c.deref.result.now all
     (slice_get-get_or files i none c.loop-file-test.true) c.in_ok-text.ensures c.deref.ensures.value in
     let parts : texts ≡ take i texts ++ c.deref.result.now ∷ drop (i + 1) texts =

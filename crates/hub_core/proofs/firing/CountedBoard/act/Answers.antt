@@ -10,8 +10,7 @@ use Rattle.std.proofs.Common.{List, Bool, [], ◌∷◌}
 use Rattle.hub_base.specs.declared.event.Event.{Event}
 use Rattle.hub_core.proofs.Hearing.{heard_as}
 use Rattle.hub_core.proofs.Effects.{gone-within}
-use Rattle.hub_core.proofs.Acting.{both_ok, fine_cancel, fine_close, fine_make, fine_reopen, fine_start, machine_as, makes_or_not, takes_effect}
-use Rattle.hub_core.proofs.Acting.{tells_fault}
+use Rattle.hub_core.proofs.Acting.{both_ok, fine_cancel, fine_close, fine_make, fine_reopen, fine_start, is_told, machine_as, makes_or_not, takes_effect}
 use Rattle.hub_core.proofs.Counting.{count-exit, count-le-procs, count-start}
 use Rattle.hub_core.proofs.Reached.{call_named, calls_apart, gone_here, ports_keep, room_left}
 use Rattle.hub_core.proofs.firing.CountedBoard.act.Goals as goal
@@ -36,8 +35,7 @@ returns-in-None-clause-acts g c =
 
 pub returns-in-Some-clause-acts : goal.returns-in-Some-clause-acts
 returns-in-Some-clause-acts g c =
-    rw c.in-Make.is (tells_fault (Make c.in-Make.cap) c.in-Some.fault
-    (sym (c.make_fault.ensures c.args.edition c.args.exited.now.gone) ∙ c.in-Some.is) c.tell_fault.ensures)
+    is_told c.in-Make.is (c.make_fault.ensures c.args.edition c.args.exited.now.gone) c.in-Some.is c.tell_fault.ensures
 
 pub call-requires-clause-named : goal.call-requires-clause-named
 call-requires-clause-named g c =
@@ -71,8 +69,7 @@ returns-in-None-close_fault-clause-acts g c =
 
 pub returns-in-Some-close_fault-clause-acts : goal.returns-in-Some-close_fault-clause-acts
 returns-in-Some-close_fault-clause-acts g c =
-    rw c.in-Close.is (tells_fault (Close c.in-Close.port) c.in-Some-close_fault.fault
-    (sym (c.close_fault.ensures c.args.edition c.args.exited.now.gone) ∙ c.in-Some-close_fault.is) c.tell_fault-in-Some-close_fault.ensures)
+    is_told c.in-Close.is (c.close_fault.ensures c.args.edition c.args.exited.now.gone) c.in-Some-close_fault.is c.tell_fault-in-Some-close_fault.ensures
 
 pub add-requires-clause-few : goal.add-requires-clause-few
 add-requires-clause-few g c = omega (arith, c.requires.count, c.requires.few, count-le-procs c.args.exited.now.gone c.args.self.now.board.procs)
@@ -96,21 +93,20 @@ returns-in-None-cancel_fault-clause-acts g c =
 
 pub returns-in-Some-cancel_fault-clause-acts : goal.returns-in-Some-cancel_fault-clause-acts
 returns-in-Some-cancel_fault-clause-acts g c =
-    rw c.in-Cancel.is (tells_fault (Cancel c.in-Cancel.other) c.in-Some-cancel_fault.fault
-    (sym (c.cancel_fault.ensures c.args.edition c.args.exited.now.gone) ∙ c.in-Some-cancel_fault.is) c.tell_fault-in-Some-cancel_fault.ensures)
+    is_told c.in-Cancel.is (c.cancel_fault.ensures c.args.edition c.args.exited.now.gone) c.in-Some-cancel_fault.is c.tell_fault-in-Some-cancel_fault.ensures
 
-pub remove-requires-clause-below : goal.remove-requires-clause-below
-remove-requires-clause-below g c =
-    let some = fine_start c.args.edition c.args.self.now.board c.args.exited.now.gone c.in-Start.other
-    (sym (c.start_fault.ensures c.args.edition c.args.self.now.board) ∙ c.in-None-start_fault.is) in
-    omega (arith, gone-within c.args.exited.now.gone c.in-Start.other.0 some)
-
-pub remove-requires-clause-some : goal.remove-requires-clause-some
-remove-requires-clause-some g c =
+pub remove-requires : goal.remove-requires
+remove-requires g c =
     let some = fine_start c.args.edition c.args.self.now.board c.args.exited.now.gone c.in-Start.other
     (sym (c.start_fault.ensures c.args.edition c.args.self.now.board) ∙ c.in-None-start_fault.is) in
     let below = gone_here _ c.in-Start.other.0 c.requires.may.reached some in
-    omega (arith, count-start c.args.exited.now.gone c.in-Start.other.0 c.args.exited.now.count c.args.self.now.board.procs c.requires.count some below)
+    record {
+      below = omega (arith, gone-within c.args.exited.now.gone c.in-Start.other.0 some);
+      some = omega (
+        arith,
+        count-start c.args.exited.now.gone c.in-Start.other.0 c.args.exited.now.count c.args.self.now.board.procs c.requires.count some below,
+      );
+    }
 
 pub returns-in-None-start_fault-clause-count : goal.returns-in-None-start_fault-clause-count
 returns-in-None-start_fault-clause-count g c =
@@ -134,8 +130,7 @@ returns-in-None-start_fault-clause-acts g c =
 
 pub returns-in-Some-start_fault-clause-acts : goal.returns-in-Some-start_fault-clause-acts
 returns-in-Some-start_fault-clause-acts g c =
-    rw c.in-Start.is (tells_fault (Start c.in-Start.other) c.in-Some-start_fault.fault
-    (sym (c.start_fault.ensures c.args.edition c.args.self.now.board) ∙ c.in-Some-start_fault.is) c.tell_fault-in-Some-start_fault.ensures)
+    is_told c.in-Start.is (c.start_fault.ensures c.args.edition c.args.self.now.board) c.in-Some-start_fault.is c.tell_fault-in-Some-start_fault.ensures
 
 pub reopen-requires-clause-made : goal.reopen-requires-clause-made
 reopen-requires-clause-made g c =
@@ -154,5 +149,4 @@ returns-in-None-reopen_fault-clause-acts g c =
 
 pub returns-in-Some-reopen_fault-clause-acts : goal.returns-in-Some-reopen_fault-clause-acts
 returns-in-Some-reopen_fault-clause-acts g c =
-    rw c.in-Reopen.is (tells_fault (Reopen c.in-Reopen.port c.in-Reopen.cap) c.in-Some-reopen_fault.fault
-    (sym (c.reopen_fault.ensures c.args.edition c.args.exited.now.gone) ∙ c.in-Some-reopen_fault.is) c.tell_fault-in-Some-reopen_fault.ensures)
+    is_told c.in-Reopen.is (c.reopen_fault.ensures c.args.edition c.args.exited.now.gone) c.in-Some-reopen_fault.is c.tell_fault-in-Some-reopen_fault.ensures

@@ -35,18 +35,12 @@ all_wait-requires-clause-present g c = λ q waits.
     let there = before.present q waits in
     (omega (arith, there.0, c.self.invariant.procs, c.in_ok-act.ensures.procs), there.1)
 
-pub stop_all-requires-clause-apart : goal.stop_all-requires-clause-apart
-stop_all-requires-clause-apart g c =
-    let e = c.args.entry.now in
-    (before_stall_of _ _ e.pid e.step c.self.invariant.reached (free_of e c.self.view_is c.requires.admitted)
-    (few_of c.self.invariant.procs c.self.invariant.few) c.in_ok-act.ensures.places c.in_ok-act.ensures.acts.machine).apart
-
-pub stop_all-requires-clause-room : goal.stop_all-requires-clause-room
-stop_all-requires-clause-room g c =
+pub stop_all-requires : goal.stop_all-requires
+stop_all-requires g c =
     let e = c.args.entry.now in
     let before = before_stall_of _ _ e.pid e.step c.self.invariant.reached (free_of e c.self.view_is c.requires.admitted)
     (few_of c.self.invariant.procs c.self.invariant.few) c.in_ok-act.ensures.places c.in_ok-act.ensures.acts.machine in
-    omega (arith, before.room, c.in_ok-act.ensures.acts.told.fits, c.requires.room)
+    record { apart = before.apart; room = omega (arith, before.room, c.in_ok-act.ensures.acts.told.fits, c.requires.room) }
 
 pub invariant_of-self-2 : goal.invariant_of-self-2
 invariant_of-self-2 g c =

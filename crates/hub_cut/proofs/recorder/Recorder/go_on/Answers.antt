@@ -1,23 +1,21 @@
-use Rattle.std.proofs.Common.{◌≡◌, ◌∙◌, ◌+◌, ap, arith, sym, subst, false, true}
+use Rattle.std.proofs.Common.{◌≡◌, ◌∙◌, ap, arith, sym, subst, true}
 use Rattle.std.proofs.lemmas.Result.{err_from_is_err_and}
 use Rattle.hub_base.specs.declared.head.Edition.{Edition}
 use Rattle.hub_base.specs.declared.head.Head.{Head}
 use Rattle.hub_base.specs.Head.{is_of}
 use Rattle.hub_core.specs.HubView.{HubView}
-use Rattle.hub_cut.specs.Recorder.{RecorderView, begins, head_of_all}
+use Rattle.hub_cut.specs.Recorder.{RecorderView, head_of_all}
 use Rattle.hub_cut.specs.RecorderKeeps.{shown}
-use Rattle.hub_cut.proofs.Recording.{few_counted, goes_next, keeps_next, none_counts, one_counts, recorder_fresh, refuses_next}
+use Rattle.hub_cut.proofs.Recording.{begins_as, goes_next, keeps_next, none_counts, one_counts, recorder_fresh, refuses_next}
 use Rattle.hub_cut.proofs.recorder.Recorder.go_on.Goals as goal
 
 pub returns-in_err-step_heard-clause-refused : goal.returns-in_err-step_heard-clause-refused
 returns-in_err-step_heard-clause-refused g c =
     let p = err_from_is_err_and c.from_residual.result c.from_residual.ensures.1 in
-    let old = shown c.self.inside in
     let e = c.args.entry.now in
-    let room : begins old e.step ≡ false = subst (λ (r : RecorderView). begins r e.step ≡ false) (sym c.self.view_is) c.requires.room in
     rw (p.1, p.2, ← c.self.view_is)
-    (refuses_next old e c.in_err-step_heard.field-0.0 c.self.invariant.head c.self.invariant.limit c.self.invariant.keep
-    room c.in_err-step_heard.ensures.rules.refused)
+    (refuses_next (shown c.self.inside) e c.in_err-step_heard.field-0.0 c.self.invariant.head c.self.invariant.limit c.self.invariant.keep
+    (begins_as e.step c.self.view_is c.requires.room) c.in_err-step_heard.ensures.rules.refused)
 
 pub most_line-bytes-requires : goal.most_line-bytes-requires
 most_line-bytes-requires g c =
@@ -34,53 +32,29 @@ overflow_add-self g c =
 pub invariant_of-self-then-not-is_exit : goal.invariant_of-self-then-not-is_exit
 invariant_of-self-then-not-is_exit g c =
     let e = c.args.entry.now in
-    let old = shown c.self.inside in
-    let room : begins old e.step ≡ false = subst (λ (r : RecorderView). begins r e.step ≡ false) (sym c.self.view_is) c.requires.room in
-    let is = sym c.is_exit.ensures ∙ c.if-not-is_exit.true in
-    let counts = one_counts e old.fresh old.bytes c.most_line-bytes.result is c.most_line-bytes.ensures.most in
-    let bytes = old.bytes + c.most_line-bytes.result in
-    keeps_next c.self.inside e c.step_heard.new.self c.in_ok-step_heard.ensures.ok.told (old.fresh + 1) bytes c.head.result.edition
-    c.self.invariant room c.in_ok-step_heard.ensures.ok.steps counts.0 counts.1 c.most_line-bytes.ensures.fits
-    (few_counted e c.most_line-bytes.result c.most_line-bytes.ensures.most c.most_line-bytes.ensures.few)
+    let counts = one_counts e _ _ c.most_line-bytes.result (sym c.is_exit.ensures ∙ c.if-not-is_exit.true) c.most_line-bytes.ensures.most in
+    keeps_next _ e c.step_heard.new.self _ _ _ _ c.self.invariant (begins_as e.step c.self.view_is c.requires.room)
+    c.in_ok-step_heard.ensures.ok.steps counts.0 counts.1 c.most_line-bytes.ensures.fits c.most_line-bytes.ensures.most c.most_line-bytes.ensures.few
 
 pub returns-then-not-is_exit-clause-ok : goal.returns-then-not-is_exit-clause-ok
 returns-then-not-is_exit-clause-ok g c =
     let e = c.args.entry.now in
-    let old = shown c.self.inside in
-    let room : begins old e.step ≡ false = subst (λ (r : RecorderView). begins r e.step ≡ false) (sym c.self.view_is) c.requires.room in
-    let is = sym c.is_exit.ensures ∙ c.if-not-is_exit.true in
-    let counts = one_counts e old.fresh old.bytes c.most_line-bytes.result is c.most_line-bytes.ensures.most in
+    let counts = one_counts e _ _ c.most_line-bytes.result (sym c.is_exit.ensures ∙ c.if-not-is_exit.true) c.most_line-bytes.ensures.most in
     let next = c.in_ok-step_heard.ensures.ok in
-    let bytes = old.bytes + c.most_line-bytes.result in
-    record {
-      told = next.told;
-      heard = next.heard;
-      holds = rw (← c.self.view_is)
-          (goes_next old e next.told c.step_heard.new.self.memory.hub (old.fresh + 1) bytes room next.steps counts.0 counts.1);
-    }
+    let goes = goes_next (shown c.self.inside) e _ _ _ _ (begins_as e.step c.self.view_is c.requires.room) next.steps counts.0 counts.1 in
+    record { told = next.told; heard = next.heard; holds = rw (← c.self.view_is) goes }
 
 pub invariant_of-self-else-not-is_exit : goal.invariant_of-self-else-not-is_exit
 invariant_of-self-else-not-is_exit g c =
     let e = c.args.entry.now in
-    let old = shown c.self.inside in
-    let room : begins old e.step ≡ false = subst (λ (r : RecorderView). begins r e.step ≡ false) (sym c.self.view_is) c.requires.room in
-    let is = sym c.is_exit.ensures ∙ c.if-not-is_exit.false in
-    let counts = none_counts e old.fresh old.bytes is in
-    keeps_next c.self.inside e c.step_heard.new.self c.in_ok-step_heard.ensures.ok.told old.fresh old.bytes c.head.result.edition
-    c.self.invariant room c.in_ok-step_heard.ensures.ok.steps counts.0 counts.1 c.most_line-bytes.ensures.fits
-    (few_counted e c.most_line-bytes.result c.most_line-bytes.ensures.most c.most_line-bytes.ensures.few)
+    let counts = none_counts e _ _ (sym c.is_exit.ensures ∙ c.if-not-is_exit.false) in
+    keeps_next _ e c.step_heard.new.self _ _ _ _ c.self.invariant (begins_as e.step c.self.view_is c.requires.room)
+    c.in_ok-step_heard.ensures.ok.steps counts.0 counts.1 c.most_line-bytes.ensures.fits c.most_line-bytes.ensures.most c.most_line-bytes.ensures.few
 
 pub returns-else-not-is_exit-clause-ok : goal.returns-else-not-is_exit-clause-ok
 returns-else-not-is_exit-clause-ok g c =
     let e = c.args.entry.now in
-    let old = shown c.self.inside in
-    let room : begins old e.step ≡ false = subst (λ (r : RecorderView). begins r e.step ≡ false) (sym c.self.view_is) c.requires.room in
-    let is = sym c.is_exit.ensures ∙ c.if-not-is_exit.false in
-    let counts = none_counts e old.fresh old.bytes is in
+    let counts = none_counts e _ _ (sym c.is_exit.ensures ∙ c.if-not-is_exit.false) in
     let next = c.in_ok-step_heard.ensures.ok in
-    record {
-      told = next.told;
-      heard = next.heard;
-      holds = rw (← c.self.view_is)
-          (goes_next old e next.told c.step_heard.new.self.memory.hub old.fresh old.bytes room next.steps counts.0 counts.1);
-    }
+    let goes = goes_next (shown c.self.inside) e _ _ _ _ (begins_as e.step c.self.view_is c.requires.room) next.steps counts.0 counts.1 in
+    record { told = next.told; heard = next.heard; holds = rw (← c.self.view_is) goes }

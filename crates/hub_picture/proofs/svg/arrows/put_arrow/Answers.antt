@@ -1,11 +1,7 @@
-use Rattle.hub_picture.proofs.Appended.{refused, refused-first, three}
+use Rattle.hub_picture.proofs.Reading.{then}
 use Rattle.hub_picture.proofs.svg.arrows.put_arrow.Goals as goal
 
 pub returns : goal.returns
-returns c = three _ _ _ c.in_ok-put_opening.ensures.ok c.in_ok-put_title.ensures.ok c.put_body.ensures
-
-pub returns-in_err-put_opening : goal.returns-in_err-put_opening
-returns-in_err-put_opening c = refused-first c.from_residual.ensures.0 c.in_err-put_opening.ensures.err
-
-pub returns-in_err-put_title : goal.returns-in_err-put_title
-returns-in_err-put_title c = refused c.from_residual-in_err-put_title.ensures.0 (_, c.in_ok-put_opening.ensures.ok) c.in_err-put_title.ensures.err
+returns c n ns =
+    then (c.in_ok-put_opening.ensures n ns) (then (c.in_ok-put_title.ensures _ _)
+    (then (c.in_ok-put_body.ensures _ _) (c.put.ensures _)))

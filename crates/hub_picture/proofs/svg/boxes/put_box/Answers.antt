@@ -1,8 +1,7 @@
-use Rattle.hub_picture.proofs.Appended.{refused-first, then}
+use Rattle.hub_picture.proofs.Reading.{then}
 use Rattle.hub_picture.proofs.svg.boxes.put_box.Goals as goal
 
-pub returns-in_err-put_form : goal.returns-in_err-put_form
-returns-in_err-put_form c = refused-first c.from_residual.ensures.0 c.in_err-put_form.ensures.err
-
 pub returns : goal.returns
-returns c = then _ _ c.in_ok-put_form.ensures.ok c.put_texts.ensures
+returns c n ns =
+    then (c.in_ok-put_rect.ensures n ns) (then (c.in_ok-put_mark.ensures _ _)
+    (then (c.in_ok-put_label.ensures _ _) (c.put_box_offers.ensures _ _)))

@@ -1,19 +1,15 @@
-use Rattle.std.proofs.Common.{[], ◌∷◌, ◌∙◌, ◌++◌, ap, sym, subst, take, append_assoc}
-use Rattle.hub_story.specs.declared.told.Told.{Told}
+use Rattle.std.proofs.Common.{◌++◌, take}
 use Rattle.hub_story.specs.Levels.{AreLevels}
-use Rattle.hub_story.proofs.Filters.{taken-next}
+use Rattle.hub_story.proofs.Filters.{noted-next}
 use Rattle.hub_story.proofs.levels.Levels.note_all.Goals as goal
 
 pub loop-told-preserved : goal.loop-told-preserved
 loop-told-preserved c =
-    let here = c.told-item in
     let told = c.args.told.now in
     let i = c.loop-told.told-index in
     record {
       counted = λ before was.
-          subst (λ l. AreLevels c.args.entries.now l c.note.new.self)
-          (append_assoc before _ _ ∙ ap (λ (t : Told). before ++ (take i told ++ t ∷ [])) here.is
-          ∙ ap (λ l. before ++ l) (sym (taken-next told i here.result c.loop-told-test.true)))
+          noted-next (λ l. AreLevels c.args.entries.now l c.note.new.self) before told i c.told-item.result c.loop-told-test.true c.told-item.is
           (c.in_ok-note.ensures.counted (before ++ take i told) (c.loop-told.invariant.counted before was));
       whole = c.note.ensures.whole;
     }

@@ -1,11 +1,7 @@
-use Rattle.hub_picture.proofs.Appended.{refused, refused-first, three}
+use Rattle.hub_picture.proofs.Reading.{then}
 use Rattle.hub_picture.proofs.svg.waiters.RowsPenWaiter.put.Goals as goal
 
-pub returns-in_err-put : goal.returns-in_err-put
-returns-in_err-put c = refused-first c.from_residual.ensures.0 c.in_err-put.ensures.err
-
-pub returns-in_err-put_told : goal.returns-in_err-put_told
-returns-in_err-put_told c = refused c.from_residual-in_err-put_told.ensures.0 (_, c.in_ok-put.ensures.ok) c.in_err-put_told.ensures.err
-
 pub returns : goal.returns
-returns c = three _ _ _ c.in_ok-put.ensures.ok c.in_ok-put_told.ensures.ok c.put-2.ensures
+returns c n ns =
+    then (c.in_ok-put.ensures _) (then (c.in_ok-put_words.ensures _ _)
+    (then (c.in_ok-put_whom_words.ensures _ _) (c.put-2.ensures _)))

@@ -1,0 +1,73 @@
+//! How calls ended that waited: the events by which they did, found by the places of their entries.
+
+ghost use Rattle.std.specs.Prelude.{◌≡◌, ◌<◌, List, filter, length, slice_index_or, IfOk, None};
+ghost use Rattle.hub_base.specs.Journal.{JournalView};
+ghost use Rattle.hub_story.specs.declared.told.Told.{Told as Event};
+ghost use Rattle.hub_story.specs.Ends.{AreEnds, told_at};
+ghost use Rattle.hub_story.specs.LateEnds.{AreLate};
+ghost use Rattle.hub_story.specs.Levels.{came_by};
+ghost use Rattle.hub_story.specs.Outlines.{ends_late};
+ghost use Rattle.hub_story.specs.Told.{end_of, ends_it, told};
+
+use crate::Told;
+use crate::ends::ends_of;
+use std::alloc::{AllocError, Global};
+
+/// The ends of calls that came by later steps than their own.
+#[derive(Drop)]
+pub struct LateEnds {
+    /// In the order in which they came.
+    ended: Vec<Told>,
+    /// For each entry where its own stands among them.
+    places: Vec<Option<u32>>,
+}
+
+/// Whether the event ended the entry at this place.
+fn ends_it(place: usize, told: &Told) -> bool
+    ensures { result ≡ ends_it place told.now }
+{
+    told.asked as usize == place && !told.event.what.is_parked()
+}
+
+/// The event that ended the entry at this place, of those that came by its own step.
+fn own_end(place: usize, came: &[Told]) -> Option<Told>
+    ensures { result ≡ end_of came.now place }
+{
+    for told in came {
+        if ends_it(place, told) {
+            return Some(*told);
+        }
+    }
+    None
+}
+
+impl LateEnds {
+    /// These, of so many entries.
+    pub fn of(alloc: Global, ended: Vec<Told>, count: usize) -> Result<LateEnds, AllocError>
+        ensures { (all : List Event) → ended.items ≡ filter ends_late all → IfOk result (AreLate all count) }
+    {
+        let places = ends_of(alloc, &ended, count)?;
+        Ok(LateEnds { ended, places })
+    }
+
+    /// How the entry at this place ended, if it did by a later step than its own.
+    pub fn at(&self, place: usize) -> Option<Told>
+        ensures { result ≡ told_at self.now.ended.items (slice_index_or self.now.places.items place None) }
+    {
+        match self.places.get(place) {
+            Some(Some(told)) => self.ended.get(*told as usize).copied(),
+            _ => None,
+        }
+    }
+
+    /// How it ended, where these came by its step: by one of them, or later; nothing while it waits.
+    pub fn end(&self, place: usize, came: &[Told]) -> Option<Told>
+        ensures { (j : JournalView) → AreLate (told j.head j.entries) (length j.entries) self.now → place < length j.entries
+            → came.now ≡ came_by place (told j.head j.entries) → result ≡ end_of (told j.head j.entries) place }
+    {
+        match own_end(place, came) {
+            Some(end) => Some(end),
+            None => self.at(place),
+        }
+    }
+}

@@ -1,6 +1,0 @@
-use Rattle.std.proofs.Common.{arith}
-use Rattle.std.proofs.lemmas.Grind.{common_steps}
-use Rattle.hub_story_text.proofs.clock.to_others.Goals as goal
-
-pub loop-told-preserved : goal.loop-told-preserved
-loop-told-preserved c = grind (arith, common_steps)

@@ -1,6 +1,0 @@
-use Rattle.std.proofs.Common.{◌≡◌, ◌++◌, drop}
-use Rattle.hub_story_text.specs.Clock.{to_others}
-use Rattle.hub_story_text.proofs.clock.to_others.Given as goal
-
-abbrev pub invariant-loop-told : goal.invariant-loop-told
-invariant-loop-told l = l.others.items ++ to_others l.clock (drop l.told-index l.all) ≡ to_others l.clock l.all

@@ -1,0 +1,5 @@
+use Rattle.std.proofs.Common.{[]}
+use Rattle.hub_trace.proofs.trace.first_lines.Goals as goal
+
+pub loop-pid-preserved : goal.loop-pid-preserved
+loop-pid-preserved c = c.in_ok-put_name.ensures [] c.loop-pid.invariant

@@ -1,0 +1,10 @@
+-- The things so far were written, or wait, and no write has failed.
+use Rattle.std.proofs.Common.{◌≡◌}
+use Rattle.hub_trace.specs.Formats.{Goes}
+use Rattle.hub_trace.proofs.writing.write_each.Given as goal
+
+abbrev pub invariant-loop-thing : goal.invariant-loop-thing
+invariant-loop-thing g l = record {
+  written : Goes g.P.Pen.format (g.W.Sink.contents l.fn.output) (g.W.Sink.contents l.output) l.fn.text.items l.text.items;
+  same : g.W.Sink.failures l.output ≡ g.W.Sink.failures l.fn.output;
+}

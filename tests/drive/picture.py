@@ -24,7 +24,7 @@ sys.dont_write_bytecode = True
 from programs import JOURNALS, MINUTE as WAIT, ROOT, Count, busy_time, examples, table
 from instructions import has_valgrind, instructions
 from refusals import Refuser
-from story import Program, begins_under_refusals, journals
+from story import Program, journals, survives_refusals
 import walk
 
 SVG = "{http://www.w3.org/2000/svg}"
@@ -513,7 +513,7 @@ def check_refusals(count, program, journals):
     with tempfile.TemporaryDirectory() as work:
         refuser = Refuser(work)
         for path in journals:
-            survives = begins_under_refusals(Program(program), ["picture"], path.read_bytes(), refuser)
+            survives = survives_refusals(Program(program), ["picture"], path.read_bytes(), refuser)
             count.test(f"{path.name} with refused allocations", survives)
 
 

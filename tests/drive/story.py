@@ -201,6 +201,10 @@ def survives_refusals(program, words, journal, refuser):
     return refuser.survives([program.path, *words], journal)
 
 
+# a story or a picture of it is written piece by piece
+LONGER = ("chanhub journal 1\nprocs 2\n0 make 1\n" + "0 send 1 7\n1 recv 1\n" * 800 + "1 recv 1\n").encode()
+
+
 def begins_under_refusals(program, words, journal, refuser):
     """So does what is written as it goes, but that a beginning of it is written by then, the longer the later memory is refused:
     at first none, and at last some of it."""
@@ -216,8 +220,7 @@ def refused_allocations(program, work):
     refuser = Refuser(work)
     for row in table("stories")["story"]:
         yield row["name"], survives_refusals(program, ["story"], row["journal"].encode(), refuser)
-    longer = "chanhub journal 1\nprocs 2\n0 make 1\n" + "0 send 1 7\n1 recv 1\n" * 800 + "1 recv 1\n"
-    yield "a story of two pieces", begins_under_refusals(program, ["story"], longer.encode(), refuser)
+    yield "a story of two pieces", begins_under_refusals(program, ["story"], LONGER, refuser)
 
 
 def longest_journals(program, _):

@@ -10,7 +10,7 @@ import sys
 sys.dont_write_bytecode = True
 from programs import ROOT, refused, table
 from refusals import Refuser
-from story import Program, begins_under_refusals, count, survives_refusals
+from story import LONGER, Program, begins_under_refusals, count, survives_refusals
 from story_model import Story
 
 ROWS = table("tool")
@@ -206,9 +206,9 @@ def little_stack(program, work):
 
 def refused_allocations(program, work):
     refuser = Refuser(work)
-    for words in (["story", "1", "-"], ["mermaid", "1"], ["trace"], ["serve"], ["--help"], ["story", "--help"], ["--version"]):
+    for words in (["story", "1", "-"], ["picture", "1"], ["mermaid", "1"], ["trace"], ["serve"], ["--help"], ["story", "--help"], ["--version"]):
         yield " ".join(words), survives_refusals(program, words, JOURNAL, refuser)
-    yield "picture 1", begins_under_refusals(program, ["picture", "1"], JOURNAL, refuser)
+    yield "a picture of some pieces", begins_under_refusals(program, ["picture"], LONGER, refuser)
     yield "bad arguments", survives_refusals(program, ["story", "--bad"], JOURNAL, refuser)
 
 

@@ -14,8 +14,8 @@
                came last: but for crates of tests, and for the answers of single functions, in folders of proofs/
     claims     what check_claims.py says of docs/CLAIMS.md and docs/SEMANTICS.md
     limits     what check_limits.py says of numbers
-    citations  sources and proofs cite lemmas of their own crate and of the crates of definitions and laws, but for those of STILL_CITED:
-               what else a proof needs of another crate is a clause of its contracts
+    citations  sources and proofs cite lemmas of their own crate and of the crates of definitions and laws: what else a proof needs of
+               another crate is a clause of its contracts
     width      lines of definitions, of proofs and of README.md are not too wide to read
     words      pages have few words
     edits      README says how many edits the gate tries
@@ -57,8 +57,6 @@ ROW_OF_CHANGING = re.compile(r'^(?:\| )?`(\w+)`(?: \*)? \| (.*?) \|', re.M)
 STEP = re.compile(r'\bReopen\b')
 CITED = re.compile(r'\bRattle\.((\w+)\.proofs\.\w+)')
 LAWS = {'hub_base', 'hub_laws', 'hub_chapters'}
-STILL_CITED = {f'hub_story.proofs.{it}' for it in ('Editions', 'Ending', 'Filling', 'Filters', 'Gone', 'InTime', 'Late', 'Ordered', 'Walks')} | {
-    f'hub_story_text.proofs.{it}' for it in ('Chains', 'Groups', 'StepLines', 'StepTexts')}
 EDITS_OF_GATE = re.compile(r'^gate: yes$', re.M)
 COUNTED_EDITS = re.compile(r'rejects (\w+)\s+deliberately wrong')
 NUMBERS = 'no one two three four five six seven eight nine ten eleven twelve'.split()
@@ -185,7 +183,7 @@ def citations():
     for crate in crates:
         for path in [*sources(crate), *files(crate, 'specs', '**', '*.antt'), *files(crate, 'proofs', '**', '*.antt')]:
             yield from (f'{path}: {lemmas}' for lemmas, other in CITED.findall(read(path))
-                        if other in crates.keys() - LAWS - {crate} and lemmas not in STILL_CITED)
+                        if other in crates.keys() - LAWS - {crate})
 
 
 def wide_lines(path, most):

@@ -22,6 +22,8 @@ Goal = collections.namedtuple('Goal', 'function name kind line')
 VERDICT = re.compile(r'fn (\w+)::(\S+): (.*)')
 NOTE = re.compile(r'note: (?:\./)?src/\S+: it is not proved that [^`]*(?:`[^`]*`[^`]*)*\(`([^`]+)`\)(.*)')
 ANSWERED = re.compile(r'(?:note: )?(?:\./)?proofs/(\S+)/(?:Answers|Invariants|Proof)\.antt:\d+:\d+: error: (?:`([^`]+)`: )?(.*)', re.S)
+# A goal that computes to the empty type may be told behind its function's line alone.
+EMPTY = re.compile(r'note: `([^`]+)` of proofs/(\S+)/Answers\.antt must prove: ⊥(?:\n|$)')
 GONE = re.compile(r'has no field|is not in scope|has no `|that can be named from here|was not admitted')
 TACTIC = re.compile(r'`(?:search|grind|omega|cc|simp)`')
 # The prover's own words for a limit of a whole declaration.
@@ -66,19 +68,27 @@ def kind_of_answer(said):
     return OPEN if ENDED.search(said) else LIMIT
 
 
+def function_of(path):
+    """The function whose proof stands in this folder of proofs/. One that calls itself has a `+` before its name there."""
+    return path.replace('/', '::').replace('+', '')
+
+
 def goals_of(said):
     """The goals that are not met, each with its function's path below the crate."""
     goals = []
     waiting = []
     answered = {}
     for entry in entries(said):
-        note, answer, verdict = NOTE.match(entry), ANSWERED.match(entry), VERDICT.match(entry)
+        note, answer, empty, verdict = (it.match(entry) for it in (NOTE, ANSWERED, EMPTY, VERDICT))
         if note:
             waiting.append((note.group(1), kind_of_note(note.group(1), note.group(2)), entry))
         elif answer:
             path, name, text = answer.groups()
-            # A function that calls itself has a `+` before its name there.
-            answered.setdefault(path.replace('/', '::').replace('+', ''), []).append((name or '', kind_of_answer(text), entry))
+            answered.setdefault(function_of(path), []).append((name or '', kind_of_answer(text), entry))
+        elif empty:
+            name, path = empty.groups()
+            if not any(it.function == function_of(path) and it.name == name for it in goals):
+                goals.append(Goal(function_of(path), name, kind_of_note(name, ''), entry))
         elif verdict:
             if re.match(r'(?:not proved|no proof|could not tell)(?!: it calls)', verdict.group(3)):
                 goals += [Goal(verdict.group(2), *it) for it in waiting]

@@ -1,11 +1,11 @@
 -- What the program writes of a journal, and why it does not.
 use Rattle.std.specs.Prelude.{◌≡◌, ℕ, List, ◌++◌, length, Option, Ok, Err}
-use Rattle.std.specs.Io.KnownBytes.{Appends}
 use Rattle.hub_base.specs.declared.head.Head.{Head}
 use Rattle.hub_base.specs.Entry.{Entry}
 use Rattle.hub_base.specs.Journal.{JournalView}
 use Rattle.hub_base.specs.Text.{IsText, IsFaulty}
 use Rattle.hub_replay.specs.declared.fault.ReplayFault.TheVariants as replay
+use Rattle.hub_replay.specs.Devices.{AppendsSome}
 use Rattle.hub_replay.specs.Replay.{ReadsWhole}
 use Rattle.hub_story.specs.Told.{told}
 use Rattle.hub_story.specs.declared.window.Window.{Window}
@@ -44,10 +44,6 @@ IsBegun form.Mermaid w given text = diagram.IsBegun text
 IsBegun form.Trace w given text = json.IsBegun text
 IsBegun form.Page w given text = Begins text (page_text w given.head given.entries (told given.head given.entries))
 
--- what a device had grew by a text that is so
-abbrev pub Grows : Option (List ℕ) → Option (List ℕ) → (List ℕ → Type 0) → Type 0
-Grows old new Is = (text : List ℕ) × Is text × Appends old new text
-
 -- the bytes are a journal's text, and its steps that are asked for are not shown for this
 pub record HasNoSteps (asked : Asked) (bytes : List ℕ) (why : StoryFault) : Type 0 where
   pub head : Head
@@ -70,7 +66,7 @@ pub record Explains (asked : Asked) (unread left old new : Option (List ℕ)) (I
   pub read : ReadsWhole unread left journal
   pub spelled : IsText journal head entries
   pub shown : window_of asked (length entries) ≡ Ok window
-  pub written : Grows old new (Is asked.form window (record { head = head; entries = entries }))
+  pub written : AppendsSome (Is asked.form window (record { head = head; entries = entries })) old new
 
 -- what was read is not explained for this
 pub record ReadsNone (asked : Asked) (unread left : Option (List ℕ)) (why : StoryFault) : Type 0 where

@@ -16,7 +16,6 @@ use chain::{check_files, read_files};
 use clap::ArgMatches;
 use explore::{Exploring, explore_given, read_exploring};
 use hub_replay::Sink;
-pub(crate) use picture::write_picture;
 use serve::serve_streams;
 use std::alloc::{AllocError, Global};
 use story::{Telling, read_telling, tell_story};

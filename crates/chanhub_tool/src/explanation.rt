@@ -4,17 +4,17 @@ ghost use Rattle.std.specs.Prelude.{◌≡◌, ◌<◌, ◌-◌, ◌^◌, length
 ghost use Rattle.hub_base.specs.ReadJournal.{IsFaultOf};
 ghost use Rattle.hub_base.specs.Head.{IsHead};
 ghost use Rattle.hub_base.specs.Text.{IsText};
-ghost use Rattle.hub_replay.specs.Devices.{Failed};
+ghost use Rattle.hub_replay.specs.Devices.{AppendsSome, Failed};
 ghost use Rattle.hub_replay.specs.ViewFaults.{Fails};
-ghost use Rattle.chanhub_tool.specs.Explains.{Explains, Grows, IsBegun, IsWhole};
+ghost use Rattle.chanhub_tool.specs.Explains.{Explains, IsBegun, IsWhole};
 ghost use Rattle.chanhub_tool.specs.Promises.{HasRefused};
 
 use crate::asked::{Asked, Form, window_of};
-use crate::commands::write_picture;
 use crate::fault::StoryFault;
 use hub_base::{MOST_BYTES, ReadFault};
 use hub_core::{ShortJournal, read_short_journal};
 use hub_page::write_page;
+use hub_picture::{drawing_of, write_svg};
 use hub_replay::{Sink, Source, ViewFault, read_up_to};
 use hub_story::{Window, story_of};
 use hub_story_text::write_story;
@@ -39,16 +39,20 @@ fn write_form<W: Sink>(
 ) -> Result<(), ViewFault>
     requires head { IsHead journal.now.head }
     requires few { length journal.now.entries < 2 ^ 32 - 1 }
-    ensures whole { OnOk result (Grows (W.contents output.old) (W.contents output.new) (IsWhole form window journal.now)) }
-    ensures beginning { OnErr result (Grows (W.contents output.old) (W.contents output.new) (IsBegun form window journal.now)) }
+    ensures whole { OnOk result (AppendsSome (IsWhole form window journal.now) (W.contents output.old) (W.contents output.new)) }
+    ensures beginning { OnErr result (AppendsSome (IsBegun form window journal.now) (W.contents output.old) (W.contents output.new)) }
     ensures err { IfErr result (Fails (W.failures output.old) (W.failures output.new)) }
 {
     match form {
         Form::Text(paint) => write_story(alloc, journal, window, paint, output),
-        Form::Picture => write_picture(alloc, journal, &story_of(alloc, journal)?, window, output),
-        Form::Mermaid => write_diagram(alloc, journal, &story_of(alloc, journal)?, window, output),
-        Form::Trace => write_trace(alloc, journal, &story_of(alloc, journal)?, output),
-        Form::Page => write_page(alloc, journal, &story_of(alloc, journal)?, window, output),
+        Form::Picture => {
+            let story = story_of(alloc, journal)?;
+            let drawing = drawing_of(alloc, journal, &story, window)?;
+            write_svg(alloc, &drawing, output)
+        }
+        Form::Mermaid => write_diagram(alloc, journal, window, output),
+        Form::Trace => write_trace(alloc, journal, output),
+        Form::Page => write_page(alloc, journal, window, output),
     }
 }
 

@@ -62,30 +62,22 @@ fn output_option<'a>(alloc: Global) -> Arg<'a> {
     .long("output")
 }
 
-/// A command over a whole journal, in `clap`'s words.
-pub(crate) fn whole_journal_command<'a>(
+/// The command, which is over a whole journal.
+pub(crate) fn over_whole_journal<'a>(
     alloc: Global,
-    name: &'a str,
-    about: &'a str,
-    usage: &'a str,
+    command: Command<'a>,
 ) -> Result<Command<'a>, AllocError> {
-    Command::new(alloc, name)
-        .about(about)
-        .override_usage(usage)
+    command
         .arg(file_argument(alloc, "The journal; without it, or as -, standard input"))?
         .arg(output_option(alloc))
 }
 
-/// A command over a journal, in `clap`'s words.
-pub(crate) fn journal_command<'a>(
+/// The command, which is over a journal's steps.
+pub(crate) fn over_journal<'a>(
     alloc: Global,
-    name: &'a str,
-    about: &'a str,
-    usage: &'a str,
+    command: Command<'a>,
 ) -> Result<Command<'a>, AllocError> {
-    Command::new(alloc, name)
-        .about(about)
-        .override_usage(usage)
+    command
         .arg(from_argument(alloc))?
         .arg(to_argument(alloc))?
         .arg(file_argument(

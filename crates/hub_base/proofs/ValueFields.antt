@@ -174,23 +174,3 @@ decodes-content digits out n done short half told ok =
       whole (Ok bs) was all =
           let is = decode_of-ok digits bs was in let twice = is.2 in let same = ap length all.1 in
           (grind (arith, common_steps), (grind (arith, common_steps), subst IsBytes (sym all.1) is.3))
-
--- digits are decoded to the value that they spell
-pub decodes : (digits out : List ℕ) (n : ℕ) (done : Result (Unit {0}) FromHexError) (v : Value) → list_all is_hex digits ≡ true
-    → length digits ≤ 2 * MOST_VALUE_BYTES → n ≡ length digits / 2
-    → MatchResult (decode_sized digits n) (λ bytes. (done ≡ Ok tt) × (out ≡ bytes)) (λ e. done ≡ Err e) → done ≡ Ok tt
-    → (length out ≡ length digits / 2 → v ≡ bytes_of out) → Some v ≡ option_map saying (bytes_value digits)
-decodes digits out n done v hex short half told ok is =
-    let all : MatchResult (decode_of digits) (λ bytes. (done ≡ Ok tt) × (out ≡ bytes)) (λ e. done ≡ Err e) =
-    subst (λ (x : Result (List ℕ) FromHexError). MatchResult x (λ bytes. (done ≡ Ok tt) × (out ≡ bytes)) (λ e. done ≡ Err e))
-    (ap (decode_sized digits) half ∙ sized digits) told in
-    let fits : nat_le (length digits) (2 * MOST_VALUE_BYTES) ≡ true = grind (arith, common_steps) in
-    whole (decode_of digits) refl all
-    ∙ ap (option_map saying) (sym (ap (λ b. cond (b && nat_le (length digits) (2 * MOST_VALUE_BYTES)) (decoded (decode_of digits)) None) hex
-    ∙ ap (λ b. cond (true && b) (decoded (decode_of digits)) None) fits)) where
-      whole : (d : Result (List ℕ) FromHexError) → decode_of digits ≡ d
-          → MatchResult d (λ bytes. (done ≡ Ok tt) × (out ≡ bytes)) (λ e. done ≡ Err e) → Some v ≡ option_map saying (decoded (decode_of digits))
-      whole (Err e) was all = cc
-      whole (Ok bs) was all =
-          let count = (decode_of-ok digits bs was).2 in let same = ap length all.1 in
-          ap Some (is (omega (arith, count, same)) ∙ ap bytes_of all.1) ∙ sym (ap (λ x. option_map saying (decoded x)) was)

@@ -61,18 +61,7 @@ pub type EntryRef<'a> = Entry<CaseSlice<'a>>;
 impl Entry {
     ghost use Rattle.std.specs.Prelude.{IsTrue};
     ghost use Rattle.hub_base.specs.Head.{is_of};
-    ghost use Rattle.hub_base.specs.Notation.{exit};
     ghost use Rattle.hub_base.specs.Text.{Fits};
-
-    /// An exit of process 0, as a place that an entry is then read into.
-    pub fn blank() -> Entry
-        ensures { result ≡ exit 0 }
-    {
-        Entry {
-            pid: Pid(0),
-            step: Step::Exit,
-        }
-    }
 
     /// The same entry, whose cases stay where they are.
     #[inline(always)]
@@ -204,24 +193,8 @@ impl<'a> StepRef<'a> {
         ensures { result ≡ self.now }
     {
         match self {
-            Step::Make(cap) => Step::Make(*cap),
-            Step::Call {
-                cases,
-                default,
-                word,
-            } => Step::Call {
-                cases: cases_from(cases.as_slice()),
-                default: *default,
-                word: *word,
-            },
-            Step::Close(port) => Step::Close(*port),
-            Step::Exit => Step::Exit,
-            Step::Cancel(pid) => Step::Cancel(*pid),
-            Step::Start(pid) => Step::Start(*pid),
-            Step::Reopen { port, cap } => Step::Reopen {
-                port: *port,
-                cap: *cap,
-            },
+            Step::Call { cases, .. } => self.with_cases(cases_from(cases.as_slice())),
+            _ => self.with_cases(cases_from(&[])),
         }
     }
 

@@ -166,11 +166,6 @@ answered_so : (pid : Pid) (step : Step) (first x : Event) → Answers pid step f
 answered_so pid step first x by same false clear = answers_no_call pid step x (subst (Answers pid step) (sym (same clear)) by)
 answered_so pid step first x by same true waits = parked_call pid step first x by.1 waits
 
--- a step that did not park has ended
-pub ended_at_once : {name : Name} {s : SeatView} {x : Event} → IsHistory name.terms s.seen → IsReplyTo name.terms.head s.pid.0 s.seen x
-    → HasEnded name s s x
-ended_at_once {s = s} history told = record { same = (refl, refl); told = told; history = history; begins = prefix_self s.seen; own = refl }
-
 -- what a call that was answered leaves in its seat
 pub record Answered (s t : SeatView) (step : Step) (x : Event) : Type 0 where
   pub later : Later s t

@@ -38,12 +38,11 @@ use Rattle.hub_story.specs.declared.moves.Move.{Move}
 use Rattle.hub_story.specs.declared.told.Told.{Told}
 use Rattle.hub_story.specs.declared.window.Window.{Window}
 use Rattle.hub_story.specs.Clock.{clock_of}
-use Rattle.hub_story.specs.Levels.{told_by}
+use Rattle.hub_story.specs.Levels.{came_by, told_by}
 use Rattle.hub_story.specs.Told.{told}
 use Rattle.hub_story.specs.Waiting.{stalled_by}
 use Rattle.hub_story.specs.Windows.{has}
 use Rattle.hub_story.specs.Partners.{partner_of}
-use Rattle.hub_story_text.specs.StoryText.{came_by}
 use Rattle.hub_page.specs.declared.limits.TheConstants.{BLOCK}
 use Rattle.hub_page.specs.Data.{block_begin, block_count, block_text, clock_words, full_line, line_at, step_line, whole_blocks}
 use Rattle.hub_page.specs.Ends.{end_words, from_words, moved_words, outcome_letter, sender_words, told_words}
@@ -54,6 +53,7 @@ use Rattle.hub_story_text.specs.OneStory.{all_steps}
 use Rattle.hub_page.specs.ReadBack.{whole_data}
 use Rattle.hub_page.specs.Sketch.{lanes_words, ports_below, ports_words, sketch_words}
 use Rattle.hub_page.specs.Stalls.{back_words, call_words, gone_sign, stall_words, waiting_words, whom_words}
+use Rattle.hub_page.proofs.Sums.{last-block}
 use Rattle.hub_page.proofs.EntryWords.{all-flat, each-true, entry-line, entry-read, entry-word, expanded, in_line, one-number}
 
 -- ---- texts of one line
@@ -150,7 +150,8 @@ entry-said ed e tail fits is = by tail is ∙ ap (λ l. result_ok (read_fields e
 
 -- ---- one step
 line-read : (ed : Edition) (es : List Entry) (all : List Told) (place : ℕ) (e : Entry) (came stalled : List Told) (rest : List ℕ) → Fits ed e →
-    asked ed (rows (full_line es all place e came stalled ++ rest)) ≡ e ∷ asked ed (rows rest)
+    asked ed (rows ((entry_words e ++ flat_map (told_words es all place) came ++ stall_words es all place stalled ++ codes "\n") ++ rest))
+    ≡ e ∷ asked ed (rows rest)
 line-read ed es all place e came stalled rest fits =
     let told = flat_map (told_words es all place) came in
     let below = stall_words es all place stalled in
@@ -199,29 +200,24 @@ sketch-read ed es all procs first end rest =
     by (p ∷ ps) = refl
 
 -- ---- all steps
-last-block : (count number : ℕ) → number ≡ block_count count → block_begin count number ≡ count
-last-block count number h = omega arith
-
 module _ (ed : Edition) (w : Window) (procs : ℕ) (es : List Entry) (all : List Told) (fits : AllByRecursion (Fits ed) es)
     (each : (place : ℕ) → place < length es → has w place ≡ true) where
   step-read : (place : ℕ) (rest : List ℕ) → place < length es → asked ed (rows rest) ≡ drop (suc place) es →
-      asked ed (rows (line_at w procs es all place ++ rest)) ≡ drop place es
+      asked ed (rows (line_at w es all place ++ rest)) ≡ drop place es
   step-read place rest below behind =
       let n = next ed es place fits below in
-      let came = came_by place all in
-      let stalled = stalled_by all place in
-      let here : is_told w procs es all place n.0 came ≡ true = rw (each place below) refl in
-      ap (λ (o : Option Entry). asked ed (rows (option_map_or (λ e. step_line w procs es all place e came stalled) o [] ++ rest))) n.1
-      ∙ ap (λ (b : Bool). asked ed (rows (cond b (full_line es all place n.0 came stalled) (codes "\n") ++ rest))) here
-      ∙ line-read ed es all place n.0 came stalled rest n.3 ∙ ap (λ l. n.0 ∷ l) behind ∙ sym n.2
+      let here : is_told w es all place n.0 ≡ true = rw (each place below) refl in
+      ap (λ (o : Option Entry). asked ed (rows (option_map_or (step_line w es all place) o [] ++ rest))) n.1
+      ∙ ap (λ (b : Bool). asked ed (rows (cond b (full_line es all place n.0) (codes "\n") ++ rest))) here
+      ∙ line-read ed es all place n.0 (came_by place all) (stalled_by all place) rest n.3 ∙ ap (λ l. n.0 ∷ l) behind ∙ sym n.2
 
   lines-read : (first k : ℕ) (rest : List ℕ) → first + k ≤ length es → asked ed (rows rest) ≡ drop (first + k) es →
-      asked ed (rows (flat_map (line_at w procs es all) (range_with_len first k) ++ rest)) ≡ drop first es
+      asked ed (rows (flat_map (line_at w es all) (range_with_len first k) ++ rest)) ≡ drop first es
   lines-read first zero rest few behind = let same : first + 0 ≡ first = omega arith in behind ∙ ap (λ n. drop n es) same
   lines-read first (suc k) rest few behind =
-      let more = flat_map (line_at w procs es all) (range_with_len (first + 1) k) in
+      let more = flat_map (line_at w es all) (range_with_len (first + 1) k) in
       let same : first + suc k ≡ (first + 1) + k = omega arith in
-      ap (λ t. asked ed (rows t)) (append_assoc (line_at w procs es all first) more rest)
+      ap (λ t. asked ed (rows t)) (append_assoc (line_at w es all first) more rest)
       ∙ step-read first (more ++ rest) (omega arith)
       (lines-read (first + 1) k rest (omega arith) (behind ∙ ap (λ n. drop n es) same) ∙ ap (λ n. drop n es) (add-one first))
 
@@ -231,7 +227,7 @@ module _ (ed : Edition) (w : Window) (procs : ℕ) (es : List Entry) (all : List
       let first = block_begin (length es) number in
       let end = block_begin (length es) (number + 1) in
       let last : first + (end - first) ≡ end = omega arith in
-      let lines = flat_map (line_at w procs es all) (places first end) in
+      let lines = flat_map (line_at w es all) (places first end) in
       ap (λ t. asked ed (rows t)) (append_assoc lines (sketch_words es all procs first end) rest)
       ∙ lines-read first (end - first) (sketch_words es all procs first end ++ rest) (omega (arith, last))
       (sketch-read ed es all procs first end rest ∙ behind ∙ ap (λ n. drop n es) (sym last))

@@ -1,12 +1,11 @@
 -- What the data say that an entry asks tells the entry: a byte of it is a letter, or part of a number or of a value.
-use Rattle.std.proofs.Common.{◌≡◌, ℕ, zero, suc, ◌*◌, ◌%◌, ◌/◌, ◌<◌, ◌==◌, Bool, true, false, not, ◌&&◌, ◌||◌, List, [], ◌∷◌, ◌++◌, codes, refl}
+use Rattle.std.proofs.Common.{◌≡◌, ℕ, zero, ◌==◌, Bool, true, false, not, ◌&&◌, ◌||◌, List, [], ◌∷◌, ◌++◌, codes, refl}
 use Rattle.std.proofs.Common.{ap, ◌∙◌, arith, drop, append_assoc, append-nil, if◌then◌else◌}
-use Rattle.std.proofs.lemmas.Bool.{and_parts, cond_both}
+use Rattle.std.proofs.lemmas.Bool.{and_parts}
 use Rattle.std.proofs.lemmas.Grind.{common_steps, flat_map-append}
 use Rattle.std.proofs.lemmas.List.Folds.{list_all-append}
 use Rattle.std.specs.Prelude.{decimal, map}
 use Rattle.std.specs.Char.{is_ascii_digit}
-use Rattle.std.specs.Fmt.{digits, digits_onto, digit_glyph}
 use Rattle.std.specs.List.{flat_map, join_with_byte, list_all}
 use Rattle.hub_base.specs.declared.case.Case.{Case}
 use Rattle.hub_base.specs.declared.case.Case.TheVariants.{Send, Recv}
@@ -18,28 +17,13 @@ use Rattle.hub_base.specs.Entry.{Entry, Step}
 use Rattle.hub_base.specs.Lines.{call_fields, case_field, default_field, is_hex, select_fields, step_fields}
 use Rattle.hub_base.specs.Text.{body}
 use Rattle.hub_base.specs.Value.{content, field_of, value_field}
+use Rattle.hub_base.proofs.Decimals.{all-digits}
 use Rattle.hub_base.proofs.HexDigits.{encoded-hex}
 use Rattle.hub_base.proofs.Numerals.{all-lack, lacks}
 use Rattle.hub_base.proofs.Values.{every_value}
 use Rattle.hub_page.specs.Entries.{call_words, default_mark, entry_words, select_words, step_words}
 
 -- ---- numbers and values
-glyph-digit : (n : ℕ) → is_ascii_digit (digit_glyph false (n % 10)) ≡ true
-glyph-digit n = let low : n % 10 < 10 = omega arith in grind (arith, common_steps)
-
-onto-digits : (k n : ℕ) (acc : List ℕ) → list_all is_ascii_digit acc ≡ true → list_all is_ascii_digit (digits_onto k 10 false n acc) ≡ true
-onto-digits zero n acc h = h
-onto-digits (suc k) n acc h =
-    let next = digit_glyph false (n % 10) ∷ acc in
-    let more : list_all is_ascii_digit next ≡ true = rw (glyph-digit n) h in
-    cond_both (n / 10 == 0) next (digits_onto k 10 false (n / 10) next) (λ ds. list_all is_ascii_digit ds ≡ true) (λ e. more)
-    (λ e. onto-digits k (n / 10) next more)
-
--- a number is spelled by digits, however great it is
-decimal-digits : (n : ℕ) → list_all is_ascii_digit (decimal n) ≡ true
-unfolding digits
-decimal-digits n = onto-digits (8 * 8) n [] refl
-
 -- a byte of a number or of a value
 abbrev in_value : ℕ → Bool
 in_value c = is_hex c || (c == 35)
@@ -49,7 +33,7 @@ each p q [] h all = refl
 each p q (x ∷ xs) h all = let two = and_parts (p x) (list_all p xs) all in rw (h x two.0, each p q xs h two.1) refl
 
 number-in : (n : ℕ) → list_all in_value (decimal n) ≡ true
-number-in n = each is_ascii_digit in_value (decimal n) (λ c h. rw h refl) (decimal-digits n)
+number-in n = each is_ascii_digit in_value (decimal n) (λ c h. rw h refl) (all-digits n)
 
 content-in : (c : Content) → IsContent c → list_all in_value (field_of c) ≡ true
 content-in (Num n) fits = number-in n
@@ -203,4 +187,4 @@ step-read f step = refl
 
 -- an entry of the data is the journal's line
 pub entry-read : (e : Entry) → expanded (entry_words e) ≡ body e
-entry-read e = expanded-digits (decimal e.pid.0) (step_words e.step) (decimal-digits e.pid.0) ∙ step-read (decimal e.pid.0) e.step
+entry-read e = expanded-digits (decimal e.pid.0) (step_words e.step) (all-digits e.pid.0) ∙ step-read (decimal e.pid.0) e.step

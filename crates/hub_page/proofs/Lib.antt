@@ -1,6 +1,5 @@
 mod Blocks
 mod Lines
-mod Rests
 mod Sums
 mod Waiting
 pub mod Written

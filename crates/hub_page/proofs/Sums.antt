@@ -6,6 +6,7 @@ use Rattle.std.proofs.lemmas.Grind.{flat_map-append}
 use Rattle.std.proofs.lemmas.List.Folds.{list_any_more}
 use Rattle.std.proofs.lemmas.List.FromFn.{map-range_with_len_more, sum_by-map-range_with_len_more}
 use Rattle.std.proofs.lemmas.List.Sums.{fold_push, sum_by_more}
+use Rattle.hub_page.specs.Data.{block_begin, block_count}
 use Rattle.hub_page.specs.Lanes.{one_if}
 use Rattle.hub_page.specs.Places.{most_over, places, sum_over}
 
@@ -71,6 +72,9 @@ numbers-behind f n start was now so next =
     ∙ ap (λ l. start ++ l)
     (ap (λ k. flat_map f (range_with_len 0 n) ++ f k) (sym (zero-left n)) ∙ sym (text-next f 0 n))
 
+pub places-none : (f : ℕ → List ℕ) (first : ℕ) (start : List ℕ) → start ≡ start ++ flat_map f (places first first)
+places-none f first start = sym (append-nil start) ∙ ap (λ n. start ++ flat_map f (range_with_len first n)) (sym (no-place first))
+
 pub places-behind : (f : ℕ → List ℕ) (first end : ℕ) (start was now : List ℕ) → first ≤ end → was ≡ start ++ flat_map f (places first end) →
     now ≡ was ++ f end → now ≡ start ++ flat_map f (places first (end + 1))
 places-behind f first end start was now below so next =
@@ -120,20 +124,32 @@ range-split a n (suc m) =
     ∙ ap (λ l. range_with_len a n ++ l) (sym (range-more (a + n) m))
 
 -- what the numbers before this one say is a beginning of what all say
-pub text-split : (f : ℕ → List ℕ) (n count : ℕ) → n ≤ count →
+text-split : (f : ℕ → List ℕ) (n count : ℕ) → n ≤ count →
     flat_map f (range_with_len 0 count) ≡ flat_map f (range_with_len 0 n) ++ flat_map f (range_with_len (0 + n) (count - n))
 text-split f n count few =
     let parts : count ≡ n + (count - n) = omega arith in
     ap (λ k. flat_map f (range_with_len 0 k)) parts ∙ ap (flat_map f) (range-split 0 n (count - n))
     ∙ flat_map-append f (range_with_len 0 n) (range_with_len (0 + n) (count - n))
 
-pub text-from : (f : ℕ → List ℕ) (n count : ℕ) → n < count →
+text-from : (f : ℕ → List ℕ) (n count : ℕ) → n < count →
     flat_map f (range_with_len (0 + n) (count - n)) ≡ f n ++ flat_map f (range_with_len (0 + n + 1) (count - (n + 1)))
 text-from f n count few =
     let one : count - n ≡ suc (count - (n + 1)) = omega arith in
     let here : 0 + n ≡ n = omega arith in
     ap (λ k. flat_map f (range_with_len (0 + n) k)) one ∙ ap (λ k. f k ++ flat_map f (range_with_len (0 + n + 1) (count - (n + 1)))) here
 
+-- what all say, where this number stands among them
+pub text-at : (f : ℕ → List ℕ) (n count : ℕ) → n < count → flat_map f (range_with_len 0 count)
+    ≡ flat_map f (range_with_len 0 n) ++ (f n ++ flat_map f (range_with_len (0 + n + 1) (count - (n + 1))))
+text-at f n count below =
+    let few : n ≤ count = omega (arith, below) in
+    text-split f n count few ∙ ap (λ l. flat_map f (range_with_len 0 n) ++ l) (text-from f n count below)
+
 -- one number more
 pub numbers-next : (f : ℕ → List ℕ) (n : ℕ) → flat_map f (range_with_len 0 (n + 1)) ≡ flat_map f (range_with_len 0 n) ++ f n
 numbers-next f n = text-next f 0 n ∙ ap (λ k. flat_map f (range_with_len 0 n) ++ f k) (zero-left n)
+
+-- ---- blocks
+-- the last one ends behind the last step
+pub last-block : (count number : ℕ) → number ≡ block_count count → block_begin count number ≡ count
+last-block count number h = omega arith

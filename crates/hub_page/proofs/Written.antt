@@ -1,5 +1,5 @@
 -- Texts that are written one after the other.
-use Rattle.std.proofs.Common.{Err, List, Ok, OnErr, Option, Result, [], ap, append-nil, append_assoc, refl}
+use Rattle.std.proofs.Common.{List, Option, [], ap, append-nil, append_assoc, refl}
 use Rattle.std.proofs.Common.{subst, sym, ℕ, ◌++◌, ◌∙◌, ◌≡◌}
 use Rattle.std.specs.Io.KnownBytes.{Appends}
 use Rattle.std.proofs.KnownBytes.{Appends-nil, Appends-trans}
@@ -54,8 +54,3 @@ module _ (first second third : List ℕ) where
       AppendsBeginning old new (first ++ second ++ third)
   third-begun old one two new here there begins =
       then-begun old two new (first ++ second) third (Appends-trans old one two first second here there) begins
-
--- ---- where a write or memory failed
-pub on-err : {A E P : Type 0} (r : Result A E) → P → OnErr r P
-on-err (Ok x) p = tt
-on-err (Err e) p = p

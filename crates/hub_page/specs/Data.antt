@@ -11,7 +11,7 @@ use Rattle.hub_story.specs.declared.told.Told.{Told}
 use Rattle.hub_story.specs.declared.window.Window.{Window}
 use Rattle.hub_story.specs.Waiting.{stalled_by}
 use Rattle.hub_story.specs.Clock.{clock_of}
-use Rattle.hub_story_text.specs.StoryText.{came_by}
+use Rattle.hub_story.specs.Levels.{came_by}
 use Rattle.hub_page.specs.declared.limits.TheConstants.{BLOCK}
 use Rattle.hub_page.specs.Entries.{entry_words}
 use Rattle.hub_page.specs.Ends.{told_words}
@@ -20,17 +20,17 @@ use Rattle.hub_page.specs.Places.{places}
 use Rattle.hub_page.specs.Sketch.{sketch_words}
 use Rattle.hub_page.specs.Stalls.{stall_words}
 
--- the line of the entry at this place, by which these events came, and these of them stalled
-abbrev pub full_line : List Entry → List Told → ℕ → Entry → List Told → List Told → List ℕ
-full_line es all place e came stalled =
-    entry_words e ++ flat_map (told_words es all place) came ++ stall_words es all place stalled ++ codes "\n"
+-- the line of the entry at this place
+abbrev pub full_line : List Entry → List Told → ℕ → Entry → List ℕ
+full_line es all place e =
+    entry_words e ++ flat_map (told_words es all place) (came_by place all) ++ stall_words es all place (stalled_by all place) ++ codes "\n"
 
 -- where the page tells the steps of this window
-abbrev pub step_line : Window → ℕ → List Entry → List Told → ℕ → Entry → List Told → List Told → List ℕ
-step_line w procs es all place e came stalled = if is_told w procs es all place e came then full_line es all place e came stalled else codes "\n"
+abbrev pub step_line : Window → List Entry → List Told → ℕ → Entry → List ℕ
+step_line w es all place e = if is_told w es all place e then full_line es all place e else codes "\n"
 
-abbrev pub line_at : Window → ℕ → List Entry → List Told → ℕ → List ℕ
-line_at w procs es all place = option_map_or (λ e. step_line w procs es all place e (came_by place all) (stalled_by all place)) (slice_get es place) []
+abbrev pub line_at : Window → List Entry → List Told → ℕ → List ℕ
+line_at w es all place = option_map_or (step_line w es all place) (slice_get es place) []
 
 -- ---- blocks
 -- how many there are of so many steps
@@ -43,7 +43,7 @@ block_begin count number = min (BLOCK * number) count
 
 -- the lines from the first place on, before the end, and a sketch of them
 abbrev pub lines_and_sketch : Window → ℕ → List Entry → List Told → ℕ → ℕ → List ℕ
-lines_and_sketch w procs es all first end = flat_map (line_at w procs es all) (places first end) ++ sketch_words es all procs first end
+lines_and_sketch w procs es all first end = flat_map (line_at w es all) (places first end) ++ sketch_words es all procs first end
 
 abbrev pub block_text : Window → ℕ → List Entry → List Told → ℕ → List ℕ
 block_text w procs es all number =

@@ -1,26 +1,25 @@
--- A journal with what is known of it.
-use Rattle.std.specs.Prelude.{ℕ, List, length}
+-- A journal with what is known of it, and which of its steps are told.
+use Rattle.std.specs.Prelude.{ℕ, List}
+use Rattle.hub_base.specs.declared.head.Head.{Head}
 use Rattle.hub_base.specs.Entry.{Entry}
 use Rattle.hub_story.specs.declared.told.Told.{Told}
-use Rattle.hub_story.specs.Levels.{told_by}
-use Rattle.hub_story.specs.Stories.{IsStoryOf}
-use Rattle.hub_story.specs.Partners.{AreIn, ways}
+use Rattle.hub_story_text.specs.Explained as explained
 use Rattle.hub_page.specs.declared.known.Known.{Known}
-use Rattle.hub_page.specs.ParkedCalls.{AreParked}
 
 abbrev pub entries_of : Known → List Entry
-entries_of k = k.journal.now.entries
+entries_of k = explained.entries_of k.explained
+
+abbrev pub head_of : Known → Head
+head_of k = explained.head_of k.explained
 
 -- how many processes there are
 abbrev pub procs_of : Known → ℕ
-procs_of k = k.journal.now.head.procs
+procs_of k = (head_of k).procs
 
 -- what is told of the entries
 abbrev pub told_of : Known → List Told
-told_of k = k.story.now.told.items
+told_of k = explained.told_of k.explained
 
--- the story is the journal's own, the other entries are those of its passages, and the calls that wait are those when the window begins
-pub record IsKnown (k : Known) : Type 0 where
-  pub story : IsStoryOf k.journal.now k.story.now
-  pub partners : AreIn (ways (entries_of k) (told_of k)) (length (entries_of k)) k.partners.now
-  pub waiting : AreParked (procs_of k) (told_by k.window.first (told_of k)) k.waiting.now
+-- what is known is so
+abbrev pub IsKnown : Known → Type 0
+IsKnown k = explained.IsExplained k.explained

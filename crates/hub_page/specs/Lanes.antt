@@ -12,8 +12,7 @@ use Rattle.hub_base.specs.declared.event.What.TheVariants as what
 use Rattle.hub_base.specs.Values.{is_fault}
 use Rattle.hub_laws.specs.Replies.{is_parked}
 use Rattle.hub_story.specs.declared.told.Told.{Told}
-use Rattle.hub_story.specs.Levels.{told_by}
-use Rattle.hub_story_text.specs.StoryText.{came_by}
+use Rattle.hub_story.specs.Levels.{came_by, told_by}
 
 abbrev pub lane_of : ℕ → Pid → ℕ
 lane_of procs pid = min pid.0 procs

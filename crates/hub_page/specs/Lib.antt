@@ -1,6 +1,5 @@
 pub mod Entries
 pub mod Ends
-pub mod Stalls
 pub mod Known
 pub mod Places
 pub mod Lanes
@@ -8,6 +7,8 @@ pub mod ParkedCalls
 pub mod Excerpt
 pub mod Ports
 pub mod Past
+pub mod Line
+pub mod Stalls
 pub mod Block
 pub mod Sketch
 pub mod Data

@@ -4,17 +4,18 @@ use Rattle.hub_base.specs.declared.head.Head.{Head}
 use Rattle.hub_base.specs.Entry.{Entry}
 use Rattle.hub_story.specs.declared.told.Told.{Told}
 use Rattle.hub_story.specs.declared.window.Window.{Window}
-use Rattle.hub_story_text.specs.StoryText.{story_text}
+use Rattle.hub_story.specs.Clock.{clock_of}
+use Rattle.hub_story_text.specs.StoryText.{end_text, heading}
 use Rattle.hub_page.specs.Data.{data_text}
 use Rattle.hub_page.specs.Viewer.{after_text, before_text, between_text}
 
--- no step
-abbrev pub no_steps : Window
-no_steps = record { first = 0; end = 0 }
+-- the heading, and what stands behind the lines of steps
+abbrev pub story_end : Head → List Entry → List Told → List ℕ
+story_end h es all = heading ++ end_text (clock_of h es) h es all
 
--- the data, and the story without the lines of steps, between these texts
+-- the data, and the end of the story, between these texts
 abbrev pub in_frame : List ℕ → List ℕ → List ℕ → Window → Head → List Entry → List Told → List ℕ
-in_frame before between after w h es all = before ++ data_text w h es all ++ between ++ story_text no_steps h es all ++ after
+in_frame before between after w h es all = before ++ data_text w h es all ++ between ++ story_end h es all ++ after
 
 -- of these steps of a journal with this head and these entries, of which this is told
 abbrev pub page_text : Window → Head → List Entry → List Told → List ℕ

@@ -46,7 +46,7 @@ still_waiting_sketch = refl
 
 -- ---- the lines where some steps are told
 abbrev lines_of : Window → List Entry → List ℕ
-lines_of w es = flat_map (line_at w 2 es (told (procs 2) es)) (places 0 (length es))
+lines_of w es = flat_map (line_at w es (told (procs 2) es)) (places 0 (length es))
 
 -- the first step alone: the others do nothing to it
 pub first_step : lines_of (record { first = 0; end = 1 }) hand_over ≡ codes "0m0;0m1\n\n\n"

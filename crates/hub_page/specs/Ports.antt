@@ -5,9 +5,8 @@ use Rattle.std.specs.Option.{option_map_or}
 use Rattle.hub_base.specs.declared.value.Port.{Port}
 use Rattle.hub_base.specs.Entry.{Entry}
 use Rattle.hub_story.specs.declared.told.Told.{Told}
-use Rattle.hub_story.specs.Levels.{level_after, received_by, sent_by}
+use Rattle.hub_story.specs.Levels.{came_by, level_after, received_by, sent_by}
 use Rattle.hub_story.specs.Moves.{move_of}
-use Rattle.hub_story_text.specs.StoryText.{came_by}
 
 -- how many values were sent on it by the steps from the first place on, before the end
 abbrev pub sent_within : List Entry → List Told → Port → ℕ → ℕ → ℕ

@@ -85,7 +85,23 @@ ports_words es all first end = ports_below es all first end (MOST_PORTS + 1)
 unfoldable pub sketch_words : List Entry → List Told → ℕ → ℕ → ℕ → List ℕ
 sketch_words es all procs first end = codes "~" ++ lanes_words es all procs first end ++ ports_words es all first end ++ codes "\n"
 
+-- ---- with what is known by then
+abbrev pub counts_of_lane : Sketch → ℕ → LaneCounts
+counts_of_lane s = lane_counts (entries_of s.known.now) (told_of s.known.now) (procs_of s.known.now) s.block.now.first s.end
+
+abbrev pub counts_of_port : Sketch → Port → PortCounts
+counts_of_port s = port_counts (entries_of s.known.now) (told_of s.known.now) s.block.now.first s.end
+
+abbrev pub words_of_lanes : Sketch → List ℕ
+words_of_lanes s = lanes_words (entries_of s.known.now) (told_of s.known.now) (procs_of s.known.now) s.block.now.first s.end
+
+abbrev pub words_of_ports : Sketch → List ℕ
+words_of_ports s = ports_words (entries_of s.known.now) (told_of s.known.now) s.block.now.first s.end
+
+abbrev pub words_of : Sketch → List ℕ
+words_of s = sketch_words (entries_of s.known.now) (told_of s.known.now) (procs_of s.known.now) s.block.now.first s.end
+
 -- what is known by then, and what was counted of the block
 pub record IsSketch (s : Sketch) : Type 0 where
   pub past : IsPast s.known.now s.end s.past.now
-  pub block : IsBlock (entries_of s.known.now) (told_of s.known.now) (procs_of s.known.now) s.end s.block.now
+  pub block : IsBlock s.known.now s.end s.block.now

@@ -12,10 +12,11 @@ use Rattle.hub_story.specs.Levels.{told_by}
 use Rattle.hub_base.specs.Values.{cases_at}
 use Rattle.hub_story.specs.declared.last_moves.AtPort.{AtPort}
 use Rattle.hub_story.specs.declared.last_moves.Mover.{Mover}
-use Rattle.hub_story.specs.LastMoves.{AreLast, known_of}
+use Rattle.hub_story.specs.LastMoves.{known_of}
 use Rattle.hub_story.specs.Whom.{whom}
+use Rattle.hub_page.specs.declared.line.Line.{Line}
 use Rattle.hub_page.specs.declared.stalls.Stall.{Stall}
-use Rattle.hub_page.specs.Known.{entries_of, told_of}
+use Rattle.hub_page.specs.Line.{entries_of, told_of}
 
 -- ---- who was there last
 abbrev pub back_words : ℕ → Option Mover → List ℕ
@@ -54,10 +55,14 @@ call_words es until place stalled own = flat_map (waiting_words es until place s
 abbrev pub stall_words : List Entry → List Told → ℕ → List Told → List ℕ
 stall_words es all place stalled = flat_map (call_words es (told_by (place + 1) all) place stalled) stalled
 
--- ---- a stall, with what is known of it
-abbrev pub until : Stall → List Told
-until s = told_by (s.place + 1) (told_of s.known.now)
+-- ---- by a step, with what is known behind it
+abbrev pub until : Line → List Told
+until l = told_by (l.place + 1) (told_of l)
 
--- the tables tell who was the last by then, and who had left
-abbrev pub IsStall : Stall → Type 0
-IsStall s = AreLast (entries_of s.known.now) (until s) s.last.now
+-- of a case of a call
+abbrev pub case_of : Stall → Told → Case → List ℕ
+case_of s = waiting_words (entries_of s.line.now) (until s.line.now) s.line.now.place s.stalled.now
+
+-- of a call
+abbrev pub call_of : Stall → Told → List ℕ
+call_of s = call_words (entries_of s.line.now) (until s.line.now) s.line.now.place s.stalled.now

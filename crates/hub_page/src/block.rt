@@ -2,16 +2,16 @@
 
 ghost use Rattle.std.specs.Prelude.{◌≡◌, IfOk, OnOk};
 ghost use Rattle.hub_page.specs.Block.{IsBlock, IsNext, IsWhole};
-ghost use Rattle.hub_page.specs.Known.{entries_of, procs_of, told_of};
+ghost use Rattle.hub_page.specs.Known.{procs_of};
 ghost use Rattle.hub_page.specs.Past.{IsPast};
 
 use crate::known::Known;
 use crate::lanes::{count_troubles, count_waits, lane_of};
+use crate::line::Line;
 use crate::past::Past;
 use crate::ports::{none_held, note_held};
-use hub_base::{MOST_PORTS, Pid};
-use hub_core::ShortEntries;
-use hub_story::{Told, count_one};
+use hub_base::MOST_PORTS;
+use hub_story::count_one;
 use std::alloc::{AllocError, Global};
 
 /// Tables of lanes and of ports, by their numbers.
@@ -43,10 +43,10 @@ impl Block {
     ) -> Result<Block, AllocError>
         requires { IsPast known.now first past.now }
         ensures first { IfOk result (λ block. block.first ≡ first) }
-        ensures begun { IfOk result (IsBlock (entries_of known.now) (told_of known.now) (procs_of known.now) first) }
+        ensures begun { IfOk result (IsBlock known.now first) }
         ensures whole { IfOk result (IsWhole (procs_of known.now)) }
     {
-        let lanes = usize::from(known.journal.head().procs) + 1;
+        let lanes = usize::from(known.procs()) + 1;
         let ports = MOST_PORTS + 1;
         Ok(Block {
             first,
@@ -59,23 +59,23 @@ impl Block {
         })
     }
 
-    /// Counts one step more, of this process, by which these came, by what is known behind it.
-    pub(crate) fn note_step(
-        &mut self,
-        entries: &ShortEntries,
-        procs: u8,
-        pid: Pid,
-        came: &[Told],
-        past: &Past,
-    ) -> Result<(), AllocError>
-        requires { IsWhole procs self.old }
-        ensures next { OnOk result (IsNext entries.now procs pid came.now past.now self.old self.new) }
-        ensures whole { IsWhole procs self.new }
+    /// Counts one step more.
+    pub(crate) fn note_step(&mut self, line: &Line<'_>) -> Result<(), AllocError>
+        requires { IsWhole (procs_of line.now.known.now) self.old }
+        ensures next { OnOk result (IsNext line.now self.old self.new) }
+        ensures whole { IsWhole (procs_of line.now.known.now) self.new }
     {
-        count_one(&mut self.asked, lane_of(procs, pid))?;
-        count_troubles(&mut self.troubles, procs, came)?;
+        let procs = line.known.procs();
+        let past = line.past;
+        count_one(&mut self.asked, lane_of(procs, line.entry.pid))?;
+        count_troubles(&mut self.troubles, procs, line.came)?;
         count_waits(&mut self.waited, procs, &past.parked)?;
-        note_held(&mut self.most, &past.levels, entries, came);
+        note_held(
+            &mut self.most,
+            &past.levels,
+            line.known.entries(),
+            line.came,
+        );
         Ok(())
     }
 }

@@ -5,26 +5,24 @@ ghost use Rattle.std.specs.Io.KnownBytes.{Appends};
 ghost use Rattle.hub_base.specs.Head.{IsHead};
 ghost use Rattle.hub_base.specs.Reading.{head_lines};
 ghost use Rattle.hub_replay.specs.Devices.{AppendsBeginning};
-ghost use Rattle.hub_story.specs.Clock.{clock_of};
-ghost use Rattle.hub_story.specs.Stories.{IsStoryOf};
-ghost use Rattle.hub_page.specs.Data.{block_begin, block_count, clock_words, data_text, whole_blocks, window_line};
 ghost use Rattle.hub_replay.specs.ViewFaults.{Fails};
-ghost use Rattle.hub_page.specs.Known.{IsKnown, entries_of, told_of};
+ghost use Rattle.hub_story.specs.Clock.{clock_of};
+ghost use Rattle.hub_page.specs.Data.{block_begin, block_count, clock_words, whole_blocks, window_line};
+ghost use Rattle.hub_page.specs.Known.{IsKnown, entries_of, head_of};
 ghost use Rattle.hub_page.specs.KnownPage.{all_blocks, block_of, data_of};
-ghost use Rattle.hub_page.specs.Past.{IsPast, IsRest};
+ghost use Rattle.hub_page.specs.Past.{IsPast};
 
 use crate::block::Block;
 use crate::known::Known;
 use crate::limits::BLOCK;
 use crate::number::put_number;
-use crate::parked_calls::ParkedCalls;
 use crate::past::Past;
 use crate::sketch::{Sketch, put_sketch};
 use crate::step_lines::put_lines;
 use hub_base::{NoMemory, Pid};
-use hub_core::ShortJournal;
+use hub_core::CaseRoom;
 use hub_replay::{Sink, ViewFault, write_whole};
-use hub_story::{Story, Told, Window, all_partners, clock_in};
+use hub_story::Window;
 use hub_text::write_head;
 use std::alloc::{AllocError, Global};
 
@@ -46,7 +44,7 @@ fn block_begin(count: usize, number: usize) -> usize
 }
 
 /// The blocks of so many steps of which the window has some, whole.
-fn whole_blocks(count: usize, window: Window) -> Window
+pub(crate) fn whole_blocks(count: usize, window: Window) -> Window
     requires { count < 2 ^ 32 - 1 }
     ensures { result ≡ whole_blocks count window }
 {
@@ -56,29 +54,26 @@ fn whole_blocks(count: usize, window: Window) -> Window
     }
 }
 
-/// Makes the text of the block of this number, in place of what `text` has, and answers what comes behind the block.
-fn make_block<'a>(
+/// Makes the text of the block of this number, in place of what `text` has.
+fn make_block(
     text: &mut Vec<u8>,
     past: &mut Past,
+    room: &mut CaseRoom,
     known: &Known<'_>,
-    rest: &'a [Told],
     number: usize,
-) -> Result<&'a [Told], NoMemory>
+) -> Result<(), NoMemory>
     requires known { IsKnown known.now }
-    requires few { length (entries_of known.now) < 2 ^ 32 - 1 }
     requires number { BLOCK * (number + 1) < 2 ^ 33 }
-    requires rest { IsRest (block_begin (length (entries_of known.now)) number) (told_of known.now) rest.now }
     requires past { IsPast known.now (block_begin (length (entries_of known.now)) number) past.old }
     ensures text { OnOk result (text.new.items ≡ block_of known.now number) }
-    ensures rest { IfOk result (λ rest. IsRest (block_begin (length (entries_of known.now)) (number + 1)) (told_of known.now) rest.now) }
     ensures past { OnOk result (IsPast known.now (block_begin (length (entries_of known.now)) (number + 1)) past.new) }
 {
-    let count = known.journal.entries().len();
+    let count = known.entries().len();
     let first = block_begin(count, number);
     let end = block_begin(count, number + 1);
     let mut block = Block::new(*text.allocator(), known, past, first as u32)?;
     text.clear();
-    let rest = put_lines(text, past, &mut block, known, rest, end)?;
+    put_lines(text, past, &mut block, room, known, end)?;
     let sketch = Sketch {
         known,
         past,
@@ -86,7 +81,7 @@ fn make_block<'a>(
         end: end as u32,
     };
     put_sketch(text, &sketch)?;
-    Ok(rest)
+    Ok(())
 }
 
 /// Writes all blocks, each as soon as its text is made.
@@ -97,17 +92,17 @@ fn write_blocks<W: Sink>(
     known: &Known<'_>,
 ) -> Result<(), ViewFault>
     requires known { IsKnown known.now }
-    requires few { length (entries_of known.now) < 2 ^ 32 - 1 }
     requires past { IsPast known.now 0 past.old }
     ensures whole { OnOk result (Appends (W.contents output.old) (W.contents output.new) (all_blocks known.now)) }
     ensures beginning { OnErr result (AppendsBeginning (W.contents output.old) (W.contents output.new) (all_blocks known.now)) }
     ensures err { IfErr result (Fails (W.failures output.old) (W.failures output.new)) }
     ensures ok { OnOk result (W.failures output.new ≡ W.failures output.old) }
+    ensures past { OnOk result (IsPast known.now (length (entries_of known.now)) past.new) }
 {
     let mut text = Vec::new(alloc);
-    let mut rest: &[Told] = &known.story.told;
-    for number in 0..block_count(known.journal.entries().len()) {
-        rest = make_block(&mut text, past, known, rest, number)?;
+    let mut room = CaseRoom::new();
+    for number in 0..block_count(known.entries().len()) {
+        make_block(&mut text, past, &mut room, known, number)?;
         write_whole(output, &text)?;
     }
     Ok(())
@@ -135,19 +130,21 @@ fn put_window(out: &mut Vec<u8>, window: Window, clock: Option<Pid>) -> Result<(
 
 /// The lines before the blocks.
 fn first_lines(alloc: Global, known: &Known<'_>, window: Window) -> Result<Vec<u8>, NoMemory>
-    requires { IsHead known.now.journal.now.head }
-    ensures { IfOk result (λ lines. lines.items ≡ head_lines known.now.journal.now.head
-        ++ window_line window (clock_of known.now.journal.now.head (entries_of known.now))) }
+    requires known { IsKnown known.now }
+    requires head { IsHead (head_of known.now) }
+    ensures { IfOk result (λ lines. lines.items ≡ head_lines (head_of known.now)
+        ++ window_line window (clock_of (head_of known.now) (entries_of known.now))) }
 {
     let mut lines = Vec::new(alloc);
-    let head = known.journal.head();
+    let head = known.explained.journal.head();
     write_head(&mut lines, head.edition, head.procs)?;
-    put_window(&mut lines, window, clock_in(known.journal))?;
+    put_window(&mut lines, window, known.explained.clock)?;
     Ok(lines)
 }
 
-/// Writes the data of a page of which so much is known.
-fn write_known<W: Sink>(
+/// Writes the data of a page: of blocks of all steps what they have in common, and what each
+/// step of the window asks and what is told by it, with the other steps without which these could not be understood.
+pub(crate) fn write_data<W: Sink>(
     output: &mut W,
     alloc: Global,
     past: &mut Past,
@@ -156,51 +153,15 @@ fn write_known<W: Sink>(
 ) -> Result<(), ViewFault>
     requires known { IsKnown known.now }
     requires window { known.now.window ≡ whole_blocks (length (entries_of known.now)) window }
-    requires head { IsHead known.now.journal.now.head }
-    requires few { length (entries_of known.now) < 2 ^ 32 - 1 }
+    requires head { IsHead (head_of known.now) }
     requires past { IsPast known.now 0 past.old }
-    ensures whole { OnOk result (Appends (W.contents output.old) (W.contents output.new)
-        (data_of window known.now)) }
-    ensures beginning { OnErr result (AppendsBeginning (W.contents output.old) (W.contents output.new)
-        (data_of window known.now)) }
+    ensures whole { OnOk result (Appends (W.contents output.old) (W.contents output.new) (data_of window known.now)) }
+    ensures beginning { OnErr result (AppendsBeginning (W.contents output.old) (W.contents output.new) (data_of window known.now)) }
     ensures err { IfErr result (Fails (W.failures output.old) (W.failures output.new)) }
     ensures ok { OnOk result (W.failures output.new ≡ W.failures output.old) }
+    ensures past { OnOk result (IsPast known.now (length (entries_of known.now)) past.new) }
 {
     let lines = first_lines(alloc, known, window)?;
     write_whole(output, &lines)?;
-    write_blocks(output, alloc, past, known)?;
-    Ok(())
-}
-
-/// Writes the data of a page: of blocks of all steps what they have in common, and what each step of the window asks and what is told
-/// by it, with the other steps without which these could not be understood.
-pub(crate) fn write_data<W: Sink>(
-    output: &mut W,
-    alloc: Global,
-    journal: &ShortJournal,
-    story: &Story,
-    window: Window,
-) -> Result<(), ViewFault>
-    requires story { IsStoryOf journal.now story.now }
-    requires head { IsHead journal.now.head }
-    requires few { length journal.now.entries < 2 ^ 32 - 1 }
-    ensures whole { OnOk result (Appends (W.contents output.old) (W.contents output.new)
-        (data_text window journal.now.head journal.now.entries story.now.told.items)) }
-    ensures beginning { OnErr result (AppendsBeginning (W.contents output.old) (W.contents output.new)
-        (data_text window journal.now.head journal.now.entries story.now.told.items)) }
-    ensures err { IfErr result (Fails (W.failures output.old) (W.failures output.new)) }
-    ensures ok { OnOk result (W.failures output.new ≡ W.failures output.old) }
-{
-    let partners = all_partners(alloc, journal, story)?;
-    let told = whole_blocks(journal.entries().len(), window);
-    let waiting = ParkedCalls::before(alloc, journal.head().procs, &story.told, told.first)?;
-    let known = Known {
-        journal,
-        story,
-        partners: &partners,
-        window: told,
-        waiting: &waiting,
-    };
-    let mut past = Past::new(alloc, &known)?;
-    write_known(output, alloc, &mut past, &known, window)
+    write_blocks(output, alloc, past, known)
 }

@@ -1,17 +1,16 @@
 //! What the line of a step tells of an event.
 
-ghost use Rattle.std.specs.Prelude.{◌≡◌, ◌<◌, ◌+◌, ◌++◌, length, OnOk};
+ghost use Rattle.std.specs.Prelude.{◌≡◌, ◌<◌, ◌++◌, length, OnOk};
 ghost use Rattle.std.specs.List.{flat_map};
-ghost use Rattle.hub_story.specs.Levels.{AreLevels, told_by};
 ghost use Rattle.hub_story.specs.Moves.{move_of};
 ghost use Rattle.hub_page.specs.Ends.{end_words, from_words, level_words, moved_words, outcome_letter, sender_words, told_words};
-ghost use Rattle.hub_page.specs.Known.{IsKnown, entries_of, told_of};
+ghost use Rattle.hub_page.specs.Line.{IsLine, entries_of, told_of};
 
-use crate::known::Known;
+use crate::line::Line;
 use crate::number::put_number;
 use hub_base::{Outcome, Port, What};
 use hub_parts::Side;
-use hub_story::{Levels, Move, Told, move_of};
+use hub_story::{Move, Told, move_of};
 use std::alloc::AllocError;
 
 /// The letter of an outcome.
@@ -53,96 +52,64 @@ fn put_from(out: &mut Vec<u8>, place: u32, sender: Option<u32>) -> Result<(), Al
 }
 
 /// Appends it, where the value of the call that was asked at the other place moved on this side.
-fn put_sender(
-    out: &mut Vec<u8>,
-    known: &Known<'_>,
-    place: u32,
-    asked: u32,
-    side: Side,
-) -> Result<(), AllocError>
-    requires known { IsKnown known.now }
-    requires within { asked < length (entries_of known.now) }
+fn put_sender(out: &mut Vec<u8>, line: &Line<'_>, asked: u32, side: Side) -> Result<(), AllocError>
+    requires line { IsLine line.now }
+    requires within { asked < length (entries_of line.now) }
     ensures { OnOk result (out.new.items ≡ out.old.items
-        ++ sender_words (entries_of known.now) (told_of known.now) place asked side) }
+        ++ sender_words (entries_of line.now) (told_of line.now) line.now.place asked side) }
 {
+    let partner = line.known.explained.partner(asked as usize);
     match side {
         Side::Send => Ok(()),
-        Side::Recv => put_from(out, place, known.partner(asked as usize)),
+        Side::Recv => put_from(out, line.place, partner),
     }
 }
 
-/// Appends how much the port holds after the step at this place.
-fn put_level(
-    out: &mut Vec<u8>,
-    known: &Known<'_>,
-    levels: &Levels,
-    place: u32,
-    port: Port,
-) -> Result<(), AllocError>
-    requires { AreLevels (entries_of known.now) (told_by (place + 1) (told_of known.now)) levels.now }
+/// Appends how much the port holds after the step.
+fn put_level(out: &mut Vec<u8>, line: &Line<'_>, port: Port) -> Result<(), AllocError>
+    requires { IsLine line.now }
     ensures { OnOk result (
-        out.new.items ≡ out.old.items ++ level_words (entries_of known.now) (told_of known.now) place port) }
+        out.new.items ≡ out.old.items ++ level_words (entries_of line.now) (told_of line.now) line.now.place port) }
 {
     put_number(out, b";", port.0.into())?;
-    put_number(out, b":", levels.level(port))
+    put_number(out, b":", line.past.levels.level(port))
 }
 
 /// Appends what is told of the value that moved, if one did.
-fn put_moved(
-    out: &mut Vec<u8>,
-    known: &Known<'_>,
-    levels: &Levels,
-    place: u32,
-    told: &Told,
-) -> Result<(), AllocError>
-    requires known { IsKnown known.now }
-    requires levels { AreLevels (entries_of known.now) (told_by (place + 1) (told_of known.now)) levels.now }
-    ensures { OnOk result (out.new.items ≡ out.old.items
-        ++ moved_words (entries_of known.now) (told_of known.now) place told.now.asked (move_of (entries_of known.now) told.now)) }
+fn put_moved(out: &mut Vec<u8>, line: &Line<'_>, told: &Told) -> Result<(), AllocError>
+    requires { IsLine line.now }
+    ensures { OnOk result (out.new.items ≡ out.old.items ++ moved_words (entries_of line.now) (told_of line.now) line.now.place told.now.asked
+        (move_of (entries_of line.now) told.now)) }
 {
-    let Some(Move { port, side, .. }) = move_of(known.journal.entries(), told) else {
+    let Some(Move { port, side, .. }) = move_of(line.known.entries(), told) else {
         return Ok(());
     };
-    put_sender(out, known, place, told.asked, side)?;
-    put_level(out, known, levels, place, port)
+    put_sender(out, line, told.asked, side)?;
+    put_level(out, line, port)
 }
 
-/// Appends what is told of an event that came by the step at this place.
-fn put_told(
-    out: &mut Vec<u8>,
-    known: &Known<'_>,
-    levels: &Levels,
-    place: u32,
-    told: &Told,
-) -> Result<(), AllocError>
-    requires known { IsKnown known.now }
-    requires levels { AreLevels (entries_of known.now) (told_by (place + 1) (told_of known.now)) levels.now }
+/// Appends what is told of an event that came by the step.
+fn put_told(out: &mut Vec<u8>, line: &Line<'_>, told: &Told) -> Result<(), AllocError>
+    requires { IsLine line.now }
     ensures { OnOk result (out.new.items ≡ out.old.items
-        ++ told_words (entries_of known.now) (told_of known.now) place told.now) }
+        ++ told_words (entries_of line.now) (told_of line.now) line.now.place told.now) }
 {
     if told.event.what.is_parked() {
         return Ok(());
     }
-    put_number(out, b";", place.saturating_sub(told.asked).into())?;
+    put_number(out, b";", line.place.saturating_sub(told.asked).into())?;
     put_end(out, told.event.what)?;
-    put_moved(out, known, levels, place, told)
+    put_moved(out, line, told)
 }
 
-/// Appends what is told of these events, which came by the step at this place.
-pub(crate) fn put_all_told(
-    out: &mut Vec<u8>,
-    known: &Known<'_>,
-    levels: &Levels,
-    place: u32,
-    came: &[Told],
-) -> Result<(), AllocError>
-    requires known { IsKnown known.now }
-    requires levels { AreLevels (entries_of known.now) (told_by (place + 1) (told_of known.now)) levels.now }
+/// Appends what is told by the step.
+pub(crate) fn put_all_told(out: &mut Vec<u8>, line: &Line<'_>) -> Result<(), AllocError>
+    requires { IsLine line.now }
     ensures { OnOk result (out.new.items ≡ out.old.items
-        ++ flat_map (told_words (entries_of known.now) (told_of known.now) place) came.now) }
+        ++ flat_map (told_words (entries_of line.now) (told_of line.now) line.now.place) line.now.came.now) }
 {
-    for told in came {
-        put_told(out, known, levels, place, told)?;
+    for told in line.came {
+        put_told(out, line, told)?;
     }
     Ok(())
 }

@@ -1,14 +1,16 @@
 //! Which steps a page tells: all of a window, and of the others those without which they could not be understood.
 
-ghost use Rattle.std.specs.Prelude.{◌≡◌, ◌<◌, length};
+ghost use Rattle.std.specs.Prelude.{◌≡◌, nat_lt, not, true};
 ghost use Rattle.std.specs.List.{list_any};
-ghost use Rattle.hub_story.specs.Levels.{told_by};
+ghost use Rattle.std.specs.Option.{option_map_or};
+ghost use Rattle.hub_laws.specs.Replies.{is_parked};
 ghost use Rattle.hub_page.specs.Excerpt.{has_other, has_some, is_end_of, is_lasting, is_told, is_waiting};
-ghost use Rattle.hub_page.specs.Known.{IsKnown, entries_of, procs_of, told_of};
+ghost use Rattle.hub_page.specs.Known.{IsKnown, entries_of, told_of};
+ghost use Rattle.hub_page.specs.Line.{IsLine};
 
 use crate::known::Known;
-use crate::lanes::lane_of;
-use hub_base::{EntryRef, Pid, Step, StepRef, What};
+use crate::line::Line;
+use hub_base::{Step, StepRef, What};
 use hub_story::{Told, Window};
 
 /// Whether a step asks for what lasts: a port, or its second life; that its process exits, or that another starts again.
@@ -39,8 +41,8 @@ fn has_other(known: &Known<'_>, asked: usize, what: What) -> bool
     let What::Fired { case, .. } = what else {
         return false;
     };
-    match known.journal.entries().case_at(asked, case) {
-        Some(_) => has_some(known.window, known.partner(asked)),
+    match known.entries().case_at(asked, case) {
+        Some(_) => has_some(known.window, known.explained.partner(asked)),
         None => false,
     }
 }
@@ -64,26 +66,42 @@ fn any_end_of(known: &Known<'_>, came: &[Told]) -> bool
     came.iter().any(|told| is_end_of(known, told))
 }
 
-/// Whether the process waits in its call at this place when the window begins.
-fn is_waiting(known: &Known<'_>, place: u32, pid: Pid) -> bool
-    requires { IsKnown known.now }
-    ensures { result ≡ is_waiting (procs_of known.now) (told_by known.now.window.first (told_of known.now)) place pid }
+/// Whether one of these says that a call waits.
+fn any_parked(came: &[Told]) -> bool
+    ensures { result ≡ list_any (λ t. is_parked t.event.what) came.now }
 {
-    match known.waiting.call(lane_of(known.journal.head().procs, pid)) {
-        Some(asked) => asked == place,
-        None => false,
+    came.iter().any(|told| told.event.what.is_parked())
+}
+
+/// Whether a call that ended so, or not at all, waits until this place.
+fn waits_until(first: u32, end: Option<Told>) -> bool
+    ensures { result ≡ option_map_or (λ t. not (nat_lt t.by first)) end true }
+{
+    match end {
+        Some(end) => end.by >= first,
+        None => true,
     }
 }
 
-/// Whether the page tells the step at this place, by which these events came.
-pub(crate) fn is_told(known: &Known<'_>, place: u32, entry: &EntryRef<'_>, came: &[Told]) -> bool
-    requires known { IsKnown known.now }
-    requires within { place < length (entries_of known.now) }
-    ensures { result ≡ is_told known.now.window (procs_of known.now) (entries_of known.now) (told_of known.now) place entry.now came.now }
+/// Whether the call of this line waits when the window begins.
+fn is_waiting(line: &Line<'_>) -> bool
+    requires { IsLine line.now }
+    ensures { result ≡ is_waiting line.now.known.now.window (told_of line.now.known.now) line.now.place }
 {
-    known.window.has(place)
-        || is_lasting(&entry.step)
-        || any_end_of(known, came)
-        || is_waiting(known, place, entry.pid)
-        || has_some(known.window, known.partner(place as usize))
+    let first = line.known.window.first;
+    line.place < first && any_parked(line.came) && waits_until(first, line.past.end)
+}
+
+/// Whether the page tells the step of this line.
+pub(crate) fn is_told(line: &Line<'_>) -> bool
+    requires { IsLine line.now }
+    ensures { result ≡ is_told line.now.known.now.window (entries_of line.now.known.now) (told_of line.now.known.now) line.now.place
+        line.now.entry.now }
+{
+    let known = line.known;
+    known.window.has(line.place)
+        || is_lasting(&line.entry.step)
+        || any_end_of(known, line.came)
+        || is_waiting(line)
+        || has_some(known.window, known.explained.partner(line.place as usize))
 }

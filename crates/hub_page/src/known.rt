@@ -1,35 +1,33 @@
-//! A journal with what is known of its entries.
+//! A journal with what is known of it, and which of its steps are told.
 
-ghost use Rattle.std.specs.Prelude.{◌≡◌, ◌<◌, length};
-ghost use Rattle.hub_page.specs.Known.{IsKnown, entries_of, told_of};
-ghost use Rattle.hub_story.specs.Partners.{partner_of};
+ghost use Rattle.std.specs.Prelude.{◌≡◌};
+ghost use Rattle.hub_page.specs.Known.{entries_of, procs_of};
 
-use crate::parked_calls::ParkedCalls;
-use hub_core::ShortJournal;
-use hub_story::{Story, Window};
+use hub_core::ShortEntries;
+use hub_story::Window;
+use hub_story_text::Explained;
 
-/// A journal, its story, for each entry the other one of the passage in which it stands, and which steps are told.
+/// A journal with what is known of it.
 #[derive(Clone, Copy)]
 pub(crate) struct Known<'a> {
-    /// The journal.
-    pub(crate) journal: &'a ShortJournal,
-    /// Its story.
-    pub(crate) story: &'a Story,
-    /// The other entries.
-    pub(crate) partners: &'a [Option<u32>],
+    /// The journal, explained.
+    pub(crate) explained: Explained<'a>,
     /// The steps that are told, besides those without which they could not be understood.
     pub(crate) window: Window,
-    /// Which calls wait when they begin.
-    pub(crate) waiting: &'a ParkedCalls,
 }
 
 impl<'a> Known<'a> {
-    /// The other entry of the passage in which the entry at this place stands.
-    pub(crate) fn partner(&self, place: usize) -> Option<u32>
-        requires known { IsKnown self.now }
-        requires within { place < length (entries_of self.now) }
-        ensures { result ≡ partner_of (entries_of self.now) (told_of self.now) place }
+    /// The entries.
+    pub(crate) fn entries(&self) -> &'a ShortEntries
+        ensures { result.now ≡ entries_of self.now }
     {
-        *self.partners.get(place)?
+        self.explained.journal.entries()
+    }
+
+    /// How many processes there are.
+    pub(crate) fn procs(&self) -> u8
+        ensures { result ≡ procs_of self.now }
+    {
+        self.explained.journal.head().procs
     }
 }

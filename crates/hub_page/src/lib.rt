@@ -10,6 +10,7 @@ mod known;
 mod lanes;
 mod laws;
 mod limits;
+mod line;
 mod number;
 mod page;
 mod parked_calls;

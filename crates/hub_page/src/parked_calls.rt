@@ -2,7 +2,6 @@
 
 ghost use Rattle.std.specs.Prelude.{◌≡◌, ◌++◌, List, [], IfOk};
 ghost use Rattle.hub_story.specs.declared.told.Told.{Told};
-ghost use Rattle.hub_story.specs.Levels.{told_by};
 ghost use Rattle.hub_page.specs.ParkedCalls.{AreNext, AreParked, IsWhole, call_of};
 
 use crate::lanes::lane_of;
@@ -51,24 +50,6 @@ impl ParkedCalls {
         for told in told {
             self.note(procs, told);
         }
-    }
-
-    /// Those that wait when the step at this place begins.
-    pub(crate) fn before(
-        alloc: Global,
-        procs: u8,
-        told: &[Told],
-        place: u32,
-    ) -> Result<ParkedCalls, AllocError>
-        ensures { IfOk result (AreParked procs (told_by place told.now)) }
-    {
-        let mut calls = ParkedCalls::new(alloc, procs)?;
-        for told in told {
-            if told.by < place {
-                calls.note(procs, told);
-            }
-        }
-        Ok(calls)
     }
 
     /// The place of the lane's call that waits, if one does.

@@ -1,8 +1,9 @@
 //! The line that tells of the steps of a block so much that they can be drawn before their lines are read.
 
 ghost use Rattle.std.specs.Prelude.{◌≡◌, ◌≤◌, ◌++◌, OnOk};
-ghost use Rattle.hub_page.specs.Known.{entries_of, procs_of, told_of};
-ghost use Rattle.hub_page.specs.Sketch.{IsSketch, lane_counts, lane_words, lanes_words, part_words, port_counts, port_words, ports_words, since, sketch_words};
+ghost use Rattle.hub_page.specs.Known.{procs_of};
+ghost use Rattle.hub_page.specs.Sketch.{IsSketch, counts_of_lane, counts_of_port, lane_words, part_words, port_words, since};
+ghost use Rattle.hub_page.specs.Sketch.{words_of, words_of_lanes, words_of_ports};
 
 use crate::block::Block;
 use crate::known::Known;
@@ -74,8 +75,7 @@ impl<'a> Sketch<'a> {
     fn lane(&self, lane: usize) -> LaneCounts
         requires sketch { IsSketch self.now }
         requires few { lane ≤ procs_of self.now.known.now }
-        ensures { result ≡ lane_counts (entries_of self.now.known.now) (told_of self.now.known.now) (procs_of self.now.known.now)
-            self.now.block.now.first self.now.end lane }
+        ensures { result ≡ counts_of_lane self.now lane }
     {
         LaneCounts {
             waited: count_at(&self.block.waited, lane),
@@ -89,7 +89,7 @@ impl<'a> Sketch<'a> {
     fn port(&self, port: Port) -> PortCounts
         requires sketch { IsSketch self.now }
         requires few { port.0 ≤ MOST_PORTS }
-        ensures { result ≡ port_counts (entries_of self.now.known.now) (told_of self.now.known.now) self.now.block.now.first self.now.end port }
+        ensures { result ≡ counts_of_port self.now port }
     {
         PortCounts {
             most: count_at(&self.block.most, port.0.into()),
@@ -116,10 +116,9 @@ fn put_lane(out: &mut Vec<u8>, lane: usize, counts: LaneCounts) -> Result<(), Al
 /// Appends what is told of all lanes.
 fn put_lanes(out: &mut Vec<u8>, sketch: &Sketch<'_>) -> Result<(), AllocError>
     requires { IsSketch sketch.now }
-    ensures { OnOk result (out.new.items ≡ out.old.items ++ lanes_words (entries_of sketch.now.known.now)
-        (told_of sketch.now.known.now) (procs_of sketch.now.known.now) sketch.now.block.now.first sketch.now.end) }
+    ensures { OnOk result (out.new.items ≡ out.old.items ++ words_of_lanes sketch.now) }
 {
-    let lanes = usize::from(sketch.known.journal.head().procs) + 1;
+    let lanes = usize::from(sketch.known.procs()) + 1;
     for lane in 0..lanes {
         put_lane(out, lane, sketch.lane(lane))?;
     }
@@ -142,8 +141,7 @@ fn put_port(out: &mut Vec<u8>, port: Port, counts: PortCounts) -> Result<(), All
 /// Appends what is told of all ports.
 fn put_ports(out: &mut Vec<u8>, sketch: &Sketch<'_>) -> Result<(), AllocError>
     requires { IsSketch sketch.now }
-    ensures { OnOk result (out.new.items ≡ out.old.items ++ ports_words (entries_of sketch.now.known.now)
-        (told_of sketch.now.known.now) sketch.now.block.now.first sketch.now.end) }
+    ensures { OnOk result (out.new.items ≡ out.old.items ++ words_of_ports sketch.now) }
 {
     for number in 0..MOST_PORTS + 1 {
         let port = Port(number as u16);
@@ -155,8 +153,7 @@ fn put_ports(out: &mut Vec<u8>, sketch: &Sketch<'_>) -> Result<(), AllocError>
 /// Appends the line of a block.
 pub(crate) fn put_sketch(out: &mut Vec<u8>, sketch: &Sketch<'_>) -> Result<(), AllocError>
     requires { IsSketch sketch.now }
-    ensures { OnOk result (out.new.items ≡ out.old.items ++ sketch_words (entries_of sketch.now.known.now)
-        (told_of sketch.now.known.now) (procs_of sketch.now.known.now) sketch.now.block.now.first sketch.now.end) }
+    ensures { OnOk result (out.new.items ≡ out.old.items ++ words_of sketch.now) }
 {
     out.extend_from_slice(b"~")?;
     put_lanes(out, sketch)?;

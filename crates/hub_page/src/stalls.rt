@@ -2,14 +2,16 @@
 
 ghost use Rattle.std.specs.Prelude.{◌≡◌, ◌++◌, OnOk};
 ghost use Rattle.std.specs.List.{flat_map};
-ghost use Rattle.hub_page.specs.Known.{entries_of, told_of};
-ghost use Rattle.hub_page.specs.Stalls.{IsStall, back_words, call_words, case_words, gone_sign, last_words, stall_words, until, waiting_words, whom_words};
+ghost use Rattle.hub_story.specs.Waiting.{stalled_by};
+ghost use Rattle.hub_page.specs.Line.{IsLine, entries_of, told_of};
+ghost use Rattle.hub_page.specs.Stalls.{back_words, call_of, case_of, case_words, gone_sign, last_words, stall_words, whom_words};
 
-use crate::known::Known;
+use crate::line::Line;
 use crate::number::put_number;
 use hub_base::Case;
 use hub_core::CaseRoom;
-use hub_story::{AtPort, LastMoves, Mover, Told, whom};
+use hub_story::{AtPort, Mover, Told, whom};
+use hub_story_text::stalled_of;
 use std::alloc::AllocError;
 
 /// Appends how many steps ago the one was asked that moved a value.
@@ -62,15 +64,11 @@ fn put_whom(out: &mut Vec<u8>, own: &Told, whom: Option<u8>) -> Result<(), Alloc
 
 /// A step that stalled calls.
 #[derive(Clone, Copy)]
-pub(crate) struct Stall<'a> {
-    /// The journal.
-    pub(crate) known: &'a Known<'a>,
-    /// The step's place.
-    pub(crate) place: u32,
-    /// Who had moved values last by then, and who had left.
-    pub(crate) last: &'a LastMoves,
+struct Stall<'a> {
+    /// The step.
+    line: &'a Line<'a>,
     /// The calls that it stalled.
-    pub(crate) stalled: &'a [Told],
+    stalled: &'a [Told],
 }
 
 /// Appends what is told of a case of a call, where this is known of its port.
@@ -81,21 +79,21 @@ fn put_waiting(
     there: AtPort,
     case: Case,
 ) -> Result<(), AllocError>
-    ensures { OnOk result (out.new.items ≡ out.old.items ++ case_words (entries_of stall.now.known.now)
-        stall.now.place stall.now.stalled.now own.now there case) }
+    ensures { OnOk result (out.new.items ≡ out.old.items ++ case_words (entries_of stall.now.line.now)
+        stall.now.line.now.place stall.now.stalled.now own.now there case) }
 {
-    put_last(out, stall.place, case, there)?;
-    let entries = stall.known.journal.entries();
+    put_last(out, stall.line.place, case, there)?;
+    let entries = stall.line.known.entries();
     put_whom(out, own, whom(entries, stall.stalled, own, there, case))
 }
 
 /// Appends what is told of a case of a call.
 fn put_case(out: &mut Vec<u8>, stall: &Stall<'_>, own: &Told, case: &Case) -> Result<(), AllocError>
-    requires { IsStall stall.now }
-    ensures { OnOk result (out.new.items ≡ out.old.items
-        ++ waiting_words (entries_of stall.now.known.now) (until stall.now) stall.now.place stall.now.stalled.now own.now case.now) }
+    requires { IsLine stall.now.line.now }
+    ensures { OnOk result (out.new.items ≡ out.old.items ++ case_of stall.now own.now case.now) }
 {
-    put_waiting(out, stall, own, stall.last.at(case.port()), *case)
+    let there = stall.line.past.seen.last.at(case.port());
+    put_waiting(out, stall, own, there, *case)
 }
 
 /// Appends what is told of these cases of a call.
@@ -105,9 +103,8 @@ fn put_cases(
     own: &Told,
     cases: &[Case],
 ) -> Result<(), AllocError>
-    requires { IsStall stall.now }
-    ensures { OnOk result (out.new.items ≡ out.old.items
-        ++ flat_map (waiting_words (entries_of stall.now.known.now) (until stall.now) stall.now.place stall.now.stalled.now own.now) cases.now) }
+    requires { IsLine stall.now.line.now }
+    ensures { OnOk result (out.new.items ≡ out.old.items ++ flat_map (case_of stall.now own.now) cases.now) }
 {
     for case in cases {
         put_case(out, stall, own, case)?;
@@ -117,12 +114,11 @@ fn put_cases(
 
 /// Appends what is told of a call.
 fn put_call(out: &mut Vec<u8>, stall: &Stall<'_>, own: &Told) -> Result<(), AllocError>
-    requires { IsStall stall.now }
-    ensures { OnOk result (out.new.items ≡ out.old.items
-        ++ call_words (entries_of stall.now.known.now) (until stall.now) stall.now.place stall.now.stalled.now own.now) }
+    requires { IsLine stall.now.line.now }
+    ensures { OnOk result (out.new.items ≡ out.old.items ++ call_of stall.now own.now) }
 {
     let mut room = CaseRoom::new();
-    let entries = stall.known.journal.entries();
+    let entries = stall.line.known.entries();
     put_cases(
         out,
         stall,
@@ -131,14 +127,29 @@ fn put_call(out: &mut Vec<u8>, stall: &Stall<'_>, own: &Told) -> Result<(), Allo
     )
 }
 
-/// Appends what is told of all calls that the step stalled.
-pub(crate) fn put_stall(out: &mut Vec<u8>, stall: &Stall<'_>) -> Result<(), AllocError>
-    requires { IsStall stall.now }
-    ensures { OnOk result (out.new.items ≡ out.old.items
-        ++ stall_words (entries_of stall.now.known.now) (told_of stall.now.known.now) stall.now.place stall.now.stalled.now) }
+/// Appends what is told of all calls that a step stalled.
+fn put_stall(out: &mut Vec<u8>, stall: &Stall<'_>) -> Result<(), AllocError>
+    requires { IsLine stall.now.line.now }
+    ensures { OnOk result (out.new.items ≡ out.old.items ++ flat_map (call_of stall.now) stall.now.stalled.now) }
 {
     for own in stall.stalled {
         put_call(out, stall, own)?;
     }
     Ok(())
+}
+
+/// Appends what is told of all calls that the step stalled.
+pub(crate) fn put_stalled(out: &mut Vec<u8>, line: &Line<'_>) -> Result<(), AllocError>
+    requires { IsLine line.now }
+    ensures { OnOk result (out.new.items ≡ out.old.items ++ stall_words (entries_of line.now) (told_of line.now) line.now.place
+        (stalled_by (told_of line.now) line.now.place)) }
+{
+    let stalled = stalled_of(*out.allocator(), line.came)?;
+    put_stall(
+        out,
+        &Stall {
+            line,
+            stalled: &stalled,
+        },
+    )
 }

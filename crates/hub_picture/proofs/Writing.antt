@@ -1,13 +1,12 @@
--- What leads a reader of XML from one place to another, written to a device.
-use Rattle.std.proofs.Common.{◌≡◌, ◌∙◌, ◌++◌, ℕ, false, List, [], ◌∷◌, Option, Result, Ok, Err, IsErr, refl, sym, arith, ap}
-use Rattle.std.specs.Prelude.{OnErr, OnOk}
+-- A document that is written bit by bit.
+use Rattle.std.proofs.Common.{◌≡◌, ◌∙◌, ◌++◌, ℕ, false, List, [], ◌∷◌, Option, Ok, refl, sym, ap, append_assoc}
 use Rattle.std.specs.Global.{Vec}
 use Rattle.std.specs.Io.KnownBytes.{Appends}
 use Rattle.std.proofs.KnownBytes.{Appends-nil, Appends-trans}
-use Rattle.hub_replay.specs.Devices.{AppendsBeginning}
+use Rattle.hub_replay.specs.Devices.{AppendsAllBut, AppendsBeginning, AppendsSome}
 use Rattle.hub_picture.specs.Xml.{IsBegun, IsDocument, State, after, is_broken}
 use Rattle.hub_picture.specs.Xml.State.{Broken, End, Start}
-use Rattle.hub_picture.specs.Reading.{Reads, Writes}
+use Rattle.hub_picture.specs.Reading.{Elements, Holds, Reads, in_root}
 use Rattle.hub_picture.proofs.Reading.{after-append}
 
 -- what is broken stays so
@@ -19,57 +18,61 @@ front-whole : (s : State) (text : List ℕ) → is_broken (after s text) ≡ fal
 front-whole Broken text so = ap is_broken (sym (broken-on text)) ∙ so
 front-whole s text so = refl
 
--- where nothing was written
-pub unwritten : {E : Type 0} {known : Option (List ℕ)} {from to : State} {result : Result (Unit {0}) E} → IsErr result → is_broken from ≡ false →
-    Writes known known from to result
-unwritten {result = Ok u} wrong so = grind (arith, wrong)
-unwritten {known} {result = Err e} right so = record { ok = _; err = ([], Appends-nil known, so) }
+begins : (written front back : List ℕ) {to : State} → is_broken to ≡ false → after Start (written ++ (front ++ back)) ≡ to → IsBegun (written ++ front)
+begins written front back so reads =
+    front-whole (after Start (written ++ front)) back
+    (ap is_broken (sym (after-append Start (written ++ front) back) ∙ ap (after Start) (append_assoc written front back) ∙ reads) ∙ so)
 
--- where a text that was made behind nothing was written whole, and where a beginning of it was
-pub written : {E F : Type 0} {known now : Option (List ℕ)} {old new : Vec ℕ} {from to : State} {u v : Unit {0}} → old.items ≡ [] →
-    Reads {E = F} old new from to (Ok u) → Appends known now new.items → Writes {E = E} known now from to (Ok v)
-written {new} {from} clear reads whole = record { ok = (new.items, whole, reads.ok from (ap (after from) clear)); err = _ }
+-- its head waits
+pub holds-first : {E : Type 0} {old new : Vec ℕ} {u : Unit {0}} (start : Option (List ℕ)) → old.items ≡ [] → Reads {E = E} old new Start in_root (Ok u) →
+    Holds start start new.items
+holds-first start none reads = record { written = []; appends = Appends-nil start; reads = reads.ok Start (ap (after Start) none) }
 
-pub begun : {E F : Type 0} {known now : Option (List ℕ)} {old new : Vec ℕ} {from to : State} {u : Unit {0}} {result : Result (Unit {0}) E} →
-    IsErr result → is_broken to ≡ false → old.items ≡ [] → Reads {E = F} old new from to (Ok u) → AppendsBeginning known now new.items →
-    Writes known now from to result
-begun {result = Ok u} wrong so clear reads part = grind (arith, wrong)
-begun {new} {from} {result = Err e} right so clear reads (front, back, is, part) =
-    let all : after (after from front) back ≡ _ =
-    sym (after-append from front back) ∙ ap (after from) (sym is) ∙ reads.ok from (ap (after from) clear) in
-    record { ok = _; err = (front, part, front-whole (after from front) back (ap is_broken all ∙ so)) }
+module _ {start now : Option (List ℕ)} where
+  there : {E : Type 0} {old new : Vec ℕ} {u : Unit {0}} {to : State} (so : Holds start now old.items) → Reads {E = E} old new in_root to (Ok u) →
+      after Start (so.written ++ new.items) ≡ to
+  there {old} {new} so reads =
+      after-append Start so.written new.items
+      ∙ reads.ok (after Start so.written) (sym (after-append Start so.written old.items) ∙ so.reads)
 
--- one behind the other
-pub written-then : {E F : Type 0} {known mid now : Option (List ℕ)} {a b c : State} {u : Unit {0}} {result : Result (Unit {0}) E} →
-    Writes {E = F} known mid a b (Ok u) → Writes mid now b c result → Writes known now a c result
-written-then {known} {mid} {now} {a} {result = Ok v} first more =
-    let (xs, grew, reads) = first.ok in
-    let (ys, grows, on) = more.ok in
-    record { ok = (xs ++ ys, Appends-trans known mid now xs ys grew grows, after-append a xs ys ∙ ap (λ s. after s ys) reads ∙ on); err = _ }
-written-then {known} {mid} {now} {a} {result = Err e} first more =
-    let (xs, grew, reads) = first.ok in
-    let (ys, grows, on) = more.err in
-    record {
-      ok = _;
-      err = (xs ++ ys, Appends-trans known mid now xs ys grew grows, ap is_broken (after-append a xs ys ∙ ap (λ s. after s ys) reads) ∙ on);
-    }
+  -- elements were put behind the text that waits
+  pub holds-elements : {E : Type 0} {old new : Vec ℕ} {u : Unit {0}} → Elements {E = E} old new (Ok u) → Holds start now old.items →
+      Holds start now new.items
+  holds-elements put so = record { written = so.written; appends = so.appends; reads = there so (put _ _) }
 
--- the same where the first failed
-pub stopped : {E F : Type 0} {known now : Option (List ℕ)} {a b c : State} {e : F} {result : Result (Unit {0}) E} → IsErr result →
-    Writes known now a b (Err e) → Writes known now a c result
-stopped {result = Ok u} wrong first = grind (arith, wrong)
-stopped {result = Err e} right first = record { ok = _; err = first.err }
+  -- some of it was written
+  pub holds-more : {next : Option (List ℕ)} {old new : List ℕ} → AppendsAllBut now next old new → Holds start now old → Holds start next new
+  holds-more {next} {old} {new} more so = record {
+    written = so.written ++ more.written;
+    appends = Appends-trans start now next so.written more.written so.appends more.appends;
+    reads = ap (after Start) (append_assoc so.written more.written new ∙ ap (λ l. so.written ++ l) (sym more.split)) ∙ so.reads;
+  }
 
-pub still : {E : Type 0} {known : Option (List ℕ)} {at : State} {u : Unit {0}} → Writes {E = E} known known at at (Ok u)
-still {known} = record { ok = ([], Appends-nil known, refl); err = _ }
+  -- it ended there
+  pub begun-here : {text : List ℕ} → Holds start now text → AppendsSome IsBegun start now
+  begun-here {text} so =
+      (so.written, front-whole (after Start so.written) text (ap is_broken (sym (after-append Start so.written text) ∙ so.reads)), so.appends)
 
--- a whole document, and a beginning of one
-pub as-document : {E : Type 0} {known now : Option (List ℕ)} {result : Result (Unit {0}) E} → Writes known now Start End result →
-    OnOk result ((text : List ℕ) × IsDocument text × Appends known now text)
-as-document {result = Ok u} writes = let (text, grew, reads) = writes.ok in (text, reads, grew)
-as-document {result = Err e} writes = _
+  pub begun-more : (next : Option (List ℕ)) {text : List ℕ} → AppendsBeginning now next text → Holds start now text → AppendsSome IsBegun start next
+  begun-more next (front, back, split, appends) so = (
+    so.written ++ front,
+    begins so.written front back refl (ap (λ l. after Start (so.written ++ l)) (sym split) ∙ so.reads),
+    Appends-trans start now next so.written front so.appends appends,
+  )
 
-pub as-begun : {E : Type 0} {known now : Option (List ℕ)} {to : State} {result : Result (Unit {0}) E} → Writes known now Start to result →
-    OnErr result ((text : List ℕ) × IsBegun text × Appends known now text)
-as-begun {result = Ok u} writes = _
-as-begun {result = Err e} writes = let (text, grew, reads) = writes.err in (text, reads, grew)
+  -- its foot was put behind
+  module _ {E : Type 0} (next : Option (List ℕ)) {old new : Vec ℕ} {bytes : List ℕ} {u : Unit {0}} (so : Holds start now old.items)
+      (reads : Reads {E = E} old new in_root End (Ok u)) (is : bytes ≡ new.items) where
+    pub whole : Appends now next bytes → AppendsSome IsDocument start next
+    whole appends = (
+      so.written ++ bytes,
+      ap (λ l. after Start (so.written ++ l)) is ∙ there so reads,
+      Appends-trans start now next so.written bytes so.appends appends,
+    )
+
+    pub begun-whole : AppendsBeginning now next bytes → AppendsSome IsBegun start next
+    begun-whole (front, back, split, appends) = (
+      so.written ++ front,
+      begins so.written front back refl (ap (λ l. after Start (so.written ++ l)) (sym split ∙ is) ∙ there so reads),
+      Appends-trans start now next so.written front so.appends appends,
+    )

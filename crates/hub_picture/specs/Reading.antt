@@ -1,13 +1,14 @@
 -- Where what a function appends leads a reader of XML.
-use Rattle.std.specs.Prelude.{◌≡◌, ℕ, ◌&&◌, Bool, true, false, List, [], ◌∷◌, Option, None, Some, codes, Result, OnOk, OnErr, if◌then◌else◌}
+use Rattle.std.specs.Prelude.{◌≡◌, ℕ, ◌&&◌, Bool, true, false, List, [], ◌∷◌, ◌++◌, Option, None, Some, codes, Result, OnOk, if◌then◌else◌}
 use Rattle.std.specs.Borrow.{Bor}
 use Rattle.std.specs.Global.{Vec}
 use Rattle.std.specs.Io.KnownBytes.{Appends}
 use Rattle.std.specs.List.{list_all}
+use Rattle.hub_replay.specs.Devices.{AppendsSome}
 use Rattle.hub_picture.specs.declared.piece.Piece.{Piece}
 use Rattle.hub_picture.specs.declared.piece.Piece.TheVariants.{Word, If}
-use Rattle.hub_picture.specs.Xml.{Name, State, after, is_broken, is_plain}
-use Rattle.hub_picture.specs.Xml.State.{Inside, Value}
+use Rattle.hub_picture.specs.Xml.{IsBegun, Name, State, after, is_plain}
+use Rattle.hub_picture.specs.Xml.State.{Inside, Start, Value}
 
 -- one that stood at the first place before what was appended stands at the second behind it
 abbrev pub Leads : Vec ℕ → Vec ℕ → State → State → Type 0
@@ -69,7 +70,15 @@ in_root = Inside (codes "svg") []
 abbrev pub within_root : Name → State
 within_root name = Inside name (codes "svg" ∷ [])
 
--- known bytes grew by what leads it from one place to another, or, where that failed, by what may be a beginning of it
-pub record Writes {E : Type 0} (old new : Option (List ℕ)) (from to : State) (result : Result (Unit {0}) E) : Type 0 where
-  pub ok : OnOk result ((bytes : List ℕ) × Appends old new bytes × (after from bytes ≡ to))
-  pub err : OnErr result ((bytes : List ℕ) × Appends old new bytes × (is_broken (after from bytes) ≡ false))
+-- since the start bytes were written that lead it into the root, with a text that waits to be written
+pub record Holds (start now : Option (List ℕ)) (text : List ℕ) : Type 0 where
+  pub written : List ℕ
+  pub appends : Appends start now written
+  pub reads : after Start (written ++ text) ≡ in_root
+
+-- if they did before, they do so now, or what was written begins a document
+abbrev pub Goes : Option (List ℕ) → Option (List ℕ) → List ℕ → List ℕ → Type 0
+Goes before after old new = (start : Option (List ℕ)) → Holds start before old → Holds start after new
+
+abbrev pub Begins : Option (List ℕ) → Option (List ℕ) → List ℕ → Type 0
+Begins before after old = (start : Option (List ℕ)) → Holds start before old → AppendsSome IsBegun start after

@@ -37,3 +37,13 @@ ConsumesAtMost old new most = (bytes : List ℕ) × Consumes old new bytes × (l
 -- known bytes grew by a beginning of these
 abbrev pub AppendsBeginning : Option (List ℕ) → Option (List ℕ) → List ℕ → Type 0
 AppendsBeginning old new bytes = (front : List ℕ) × (back : List ℕ) × (bytes ≡ front ++ back) × Appends old new front
+
+-- they grew by a text that is so
+abbrev pub AppendsSome : (List ℕ → Type 0) → Option (List ℕ) → Option (List ℕ) → Type 0
+AppendsSome Is old new = (text : List ℕ) × Is text × Appends old new text
+
+-- they grew by a text, but for what is left of it
+pub record AppendsAllBut (old new : Option (List ℕ)) (text left : List ℕ) : Type 0 where
+  pub written : List ℕ
+  pub split : text ≡ written ++ left
+  pub appends : Appends old new written

@@ -28,7 +28,7 @@ pub use device::{Counted, Sink, Source};
 pub use fault::{ReplayFault, SourceFault, WriteFailed};
 pub use fault_lines::{ProgramFault, tell_fault, write_pieces};
 pub use pair::{Opening, Pair};
-pub use pieces::{CHUNK, read_up_to, write_whole};
+pub use pieces::{CHUNK, read_up_to, write_many, write_whole};
 pub use replayer::replay;
 pub use server::converse;
 pub use talk::Talk;

@@ -2,12 +2,12 @@
 
 ghost use Rattle.std.specs.Prelude.{◌≡◌, ◌+◌, ◌≤◌, vec_len, IfOk, OnOk, OnErr, IsErrOf};
 ghost use Rattle.std.specs.Io.KnownBytes.{Consumes, Appends, IsAtEnd};
-ghost use Rattle.hub_replay.specs.Devices.{Failed, ConsumesAtMost, AppendsBeginning};
+ghost use Rattle.hub_replay.specs.Devices.{Failed, ConsumesAtMost, AppendsAllBut, AppendsBeginning};
 
 use crate::{Sink, Source, SourceFault, WriteFailed};
 use std::alloc::Global;
 
-/// The most bytes that one read asks for.
+/// The most bytes that one read asks for; and so many of a text are written at once.
 pub const CHUNK: usize = 65_536;
 
 /// Reads to the end, or until `limit + 1` bytes have come.
@@ -64,5 +64,24 @@ pub fn write_whole<W: Sink>(sink: &mut W, bytes: &[u8]) -> Result<(), WriteFaile
             _ => return Err(WriteFailed),
         }
     }
+    Ok(())
+}
+
+/// Writes what waits in `text`, where that is long, and lets it go.
+pub fn write_many<W: Sink>(sink: &mut W, text: &mut Vec<u8>) -> Result<(), WriteFailed>
+    ensures whole { OnOk result
+        (AppendsAllBut (W.contents sink.old) (W.contents sink.new) text.old.items text.new.items) }
+    ensures beginning { OnErr result
+        (AppendsBeginning (W.contents sink.old) (W.contents sink.new) text.old.items) }
+
+    // One write failed at `Err`, and else none.
+    ensures err { OnErr result (Failed (W.failures sink.old) (W.failures sink.new)) }
+    ensures ok { OnOk result (W.failures sink.new ≡ W.failures sink.old) }
+{
+    if text.len() < CHUNK {
+        return Ok(());
+    }
+    write_whole(sink, text)?;
+    text.clear();
     Ok(())
 }

@@ -5,7 +5,6 @@ ghost use Rattle.hub_base.specs.declared.fault.Fault.TheVariants as why;
 ghost use Rattle.hub_runner.specs.declared.fault.RunFault.TheVariants as run;
 
 use hub_base::{Fault, NoMemory};
-use std::alloc::AllocError;
 use thiserror::Error;
 
 /// Why a run has no report. Whatever the fault, every thread of the run has ended.
@@ -37,14 +36,6 @@ impl From<NoMemory> for RunFault {
     ghost from_gives = { λ _ given. given ≡ run.NoMemory };
 
     fn from(_: NoMemory) -> RunFault {
-        RunFault::NoMemory
-    }
-}
-
-impl From<AllocError> for RunFault {
-    ghost from_gives = { λ _ given. given ≡ run.NoMemory };
-
-    fn from(_: AllocError) -> RunFault {
         RunFault::NoMemory
     }
 }

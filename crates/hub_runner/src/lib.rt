@@ -11,14 +11,12 @@ mod gate;
 mod replayed;
 mod report;
 mod runner;
-mod short_report;
 mod worker;
 mod writer;
 
 pub use fault::RunFault;
 pub use gate::{Gate, NoGate};
 pub use report::{PortReport, Report};
-pub use runner::{run_scenario, run_scenario_short};
-pub use short_report::ShortReport;
+pub use runner::run_scenario;
 pub use worker::repeats;
-pub use writer::{write_report, write_short_report};
+pub use writer::write_report;

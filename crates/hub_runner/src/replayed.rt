@@ -7,15 +7,10 @@ ghost use Rattle.std.specs.Option.{option_map};
 ghost use Rattle.hub_runner.specs.Prelude.{Port, IsHead, state, channel_at, steps_of, IsLegal, IsMade, port_touched, ports_told, told_of};
 ghost use Rattle.hub_runner.specs.Prelude.{HasRoom, OfTold, Tells, Within, most_got, number_told, with_sum, with_told};
 
-mod short;
-
 use crate::PortReport;
 use crate::counting::{port_named, tell};
-use hub_base::{
-    Event, Events, Head, Journal, MOST_EVENTS, MOST_PORTS, MOST_STEPS, NoMemory, Port, StepRef,
-};
-use hub_core::Machine;
-pub(crate) use short::replay_short;
+use hub_base::{Event, Events, Head, MOST_EVENTS, MOST_PORTS, MOST_STEPS, NoMemory, Port, StepRef};
+use hub_core::{CaseRoom, Machine, ShortJournal};
 use std::alloc::{AllocError, Global};
 
 /// What some entries led to, and what their events told.
@@ -111,8 +106,8 @@ impl Replayed {
     }
 }
 
-/// Replays a legal journal.
-pub(crate) fn replay(alloc: Global, journal: &Journal) -> Result<Replayed, NoMemory>
+/// Replays a legal journal, of which no entry is written out.
+pub(crate) fn replay(alloc: Global, journal: &ShortJournal) -> Result<Replayed, NoMemory>
     requires head { IsHead journal.now.head }
     requires legal { IsLegal journal.now.head journal.now.entries }
     requires few { steps_of journal.now.entries ≤ MOST_STEPS }
@@ -120,8 +115,10 @@ pub(crate) fn replay(alloc: Global, journal: &Journal) -> Result<Replayed, NoMem
 {
     let mut replayed = Replayed::new(alloc, journal.head())?;
     let mut events = Events::new();
-    for whole in journal.entries() {
-        let entry = whole.by_slice();
+    let mut room = CaseRoom::new();
+    let entries = journal.entries();
+    for place in 0..entries.len() {
+        let entry = entries.entry(place, &mut room);
         replayed.machine.answer(&entry, &mut events)?;
         replayed.add(&entry.step, &events);
     }

@@ -5,7 +5,8 @@ ghost use Rattle.std.specs.Prelude.{◌≤◌, IfOk};
 ghost use Rattle.hub_runner.specs.Prelude.{IsHead, IsLegal, IsReportOf, steps_of};
 
 use crate::replayed::replay;
-use hub_base::{Journal, MOST_STEPS, NoMemory};
+use hub_base::{MOST_STEPS, NoMemory};
+use hub_core::ShortJournal;
 use std::alloc::Global;
 
 /// What a port carried.
@@ -29,7 +30,7 @@ pub struct PortReport {
 #[derive(Drop)]
 pub struct Report {
     /// The journal that all else is told of.
-    pub journal: Journal,
+    pub journal: ShortJournal,
     /// What each port carried: the first is port 1.
     pub ports: Vec<PortReport>,
     /// How many calls ended because everyone waited.
@@ -40,9 +41,9 @@ pub struct Report {
 
 impl Report {
     /// The report of a legal journal of 1 to `MOST_PROCS` processes with at most `MOST_STEPS` steps (an
-    /// exit is not one). Its entries are replayed once; they are not copied. `Err` where
+    /// exit is not one). Its entries are replayed once; none is written out. `Err` where
     /// memory was refused; the journal is then dropped.
-    pub fn of(alloc: Global, journal: Journal) -> Result<Report, NoMemory>
+    pub fn of(alloc: Global, journal: ShortJournal) -> Result<Report, NoMemory>
         requires head { IsHead journal.head }
         requires legal { IsLegal journal.head journal.entries }
         requires few { steps_of journal.entries ≤ MOST_STEPS }

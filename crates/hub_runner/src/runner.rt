@@ -9,13 +9,13 @@ ghost use Rattle.hub_runner.specs.Prelude.{ShowPorts, AllFollow, asked_of, asker
 use crate::fault::{RunFault, with_outcome};
 use crate::following::Following;
 use crate::gate::Gate;
-use crate::{Report, ShortReport};
-use hub_base::{Fault, MOST_STEPS};
+use crate::report::Report;
+use hub_base::{Fault, MOST_STEPS, NoMemory};
 use hub_core::ShortJournal;
 use hub_crew::{Member, run_crew};
 use hub_live::{Blank, Held, HubName, LiveHub, Seat, hold_all};
 use hub_scenario::Scenario;
-use std::alloc::{AllocError, Global};
+use std::alloc::Global;
 use std::marker::Brand;
 use std::sync::Wait;
 use std::thread::Threads;
@@ -102,7 +102,7 @@ fn end_of<K: HubName>(
     alloc: Global,
     scenario: &Scenario,
     members: Vec<Member<Held<K>, Result<(), Fault>>>,
-) -> Result<Ended<K>, AllocError>
+) -> Result<Ended<K>, NoMemory>
     requires { All (λ m. IsOutcome (scenario_view scenario.now) m.seat m.report) members.items }
     ensures ended { IfOk result (λ h. HaveEnded (scenario_view scenario.now) K.name
         (map (λ m. m.seat.pid) members.items) h.seats.items h.fault) }
@@ -116,7 +116,7 @@ fn end_of<K: HubName>(
         let _pid = seat.pid();
         fault = with_outcome(fault, report);
         let Ok(()) = seats.push(seat) else {
-            return Err(AllocError);
+            return Err(NoMemory);
         };
     }
     Ok(Ended { seats, fault })
@@ -131,7 +131,7 @@ fn follow_all<K: HubName + Send + Sync, R: Threads + Wait + Sync, G: Gate + Sync
     seats: Vec<Seat>,
     scenario: &Scenario,
     gate: &G,
-) -> Result<Ended<K>, AllocError>
+) -> Result<Ended<K>, NoMemory>
     requires head { K.name.terms.head ≡ run_head (scenario_view scenario.now) }
     requires some { 0 < vec_len seats }
     requires count { vec_len seats ≡ vec_len scenario.now.scripts }
@@ -216,12 +216,12 @@ fn run_journal<R: Threads + Wait + Sync, G: Gate + Sync>(
 /// allows, as their scripts say, and one asked for a step more. Refused by `NoMemory` where an allocation
 /// or the start of a thread was refused. It returns once all threads have ended; that they do end is not
 /// promised.
-pub fn run_scenario_short<R: Threads + Wait + Sync, G: Gate + Sync>(
+pub fn run_scenario<R: Threads + Wait + Sync, G: Gate + Sync>(
     rt: &R,
     alloc: Global,
     scenario: &Scenario,
     gate: &G,
-) -> Result<ShortReport, RunFault>
+) -> Result<Report, RunFault>
     ensures head { IfOk result (λ r. r.journal.head ≡ run_head (scenario_view scenario.now)) }
     ensures legal { IfOk result (λ r. IsLegal r.journal.head r.journal.entries) }
     ensures fits { IfOk result (λ r. AreOf r.journal.head.edition r.journal.entries) }
@@ -232,24 +232,5 @@ pub fn run_scenario_short<R: Threads + Wait + Sync, G: Gate + Sync>(
         → (journal : List Entry) × IsCutShort (scenario_view scenario.now) journal }
 {
     let journal = run_journal(rt, alloc, scenario, gate)?;
-    Ok(ShortReport::of(alloc, journal)?)
-}
-
-/// The same, and the report's journal is written out.
-pub fn run_scenario<R: Threads + Wait + Sync, G: Gate + Sync>(
-    rt: &R,
-    alloc: Global,
-    scenario: &Scenario,
-    gate: &G,
-) -> Result<Report, RunFault>
-    ensures head { IfOk result (λ r. r.journal.head ≡ run_head (scenario_view scenario.now)) }
-    ensures legal { IfOk result (λ r. IsLegal r.journal.head r.journal.entries) }
-    ensures ports { IfOk result (λ r. BeginsWithPorts (scenario_view scenario.now) r.journal.entries) }
-    ensures follows { IfOk result (λ r. AllFollow (scenario_view scenario.now) r.journal.entries) }
-    ensures report { IfOk result (λ r. IsReportOf r.journal r) }
-    ensures full { IsErrOf result RunFault.JournalFull
-        → (journal : List Entry) × IsCutShort (scenario_view scenario.now) journal }
-{
-    let report = run_scenario_short(rt, alloc, scenario, gate)?;
-    Ok(report.write_out(alloc)?)
+    Ok(Report::of(alloc, journal)?)
 }

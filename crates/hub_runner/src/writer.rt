@@ -4,13 +4,10 @@
 ghost use Rattle.std.specs.Prelude.{◌≡◌, ◌++◌, ◌+◌, ◌<◌, ℕ, List, OnOk, OnErr, if◌then◌else◌};
 ghost use Rattle.hub_runner.specs.ReportText.{field, ending, port_line, port_lines, count_line, report_text};
 
-mod short;
-
 use crate::{PortReport, Report};
 use hub_base::NoMemory;
 use hub_text::undo_if_refused;
 use itoa::Buffer;
-pub use short::write_short_report;
 use std::alloc::AllocError;
 
 /// Appends a word and a number.

@@ -1,11 +1,11 @@
 -- Where the first entry of a process stands, from a place on, and the tables that tell it.
 use Rattle.std.proofs.Common.{◌≡◌, ◌∙◌, ◌+◌, ◌-◌, ◌==◌, ◌≤◌, ◌<◌, ℕ, Bool, true, false, List, [], ◌∷◌, Option, Some, None, refl, ap, sym, subst}
-use Rattle.std.proofs.Common.{add-one, arith, length, drop, zero, suc, cond, eq-eqb, length-drop, get_or, set, replicate}
+use Rattle.std.proofs.Common.{add-one, arith, length, drop, zero, suc, cond, eq-eqb, length-drop, get_or, set}
 use Rattle.std.specs.Prelude.{◌≢◌, slice_get, unwrap_or, IfSome}
 use Rattle.std.specs.List.{position_from}
 use Rattle.std.proofs.Math.ListN.{length-set}
 use Rattle.std.proofs.lemmas.Bool.{eqb-true}
-use Rattle.std.proofs.lemmas.List.{drop_all, get_or-replicate, get_or-set_other, get_or-set_same, length-replicate}
+use Rattle.std.proofs.lemmas.List.{get_or-set_other, get_or-set_same}
 use Rattle.std.proofs.lemmas.Option.{get_or_from_slice_get, slice_get_read, slice_get_within}
 use Rattle.std.specs.Option.{option_map}
 use Rattle.hub_base.specs.Entry.{Entry}
@@ -103,22 +103,6 @@ pub told_within : (es : List Entry) (place : ℕ) → place < length es → None
 told_within [] place below none = absurd (omega (arith, below))
 told_within (e ∷ es) zero below none = absurd (cc)
 told_within (e ∷ es) (suc place) below none = told_within es place (omega (arith, below)) none
-
--- behind the last entry nothing stands
-nowhere : (n : ℕ) (es : List Entry) → place_from n (length es) es ≡ length es
-nowhere n es =
-    ap (λ (fs : List Entry). unwrap_or (position_from (λ e. e.pid.0 == n) (length es) fs) (length es)) (drop_all (length es) es (omega arith))
-
-pub turns_end : (es : List Entry) → AreTurns (replicate 256 (length es)) (length es) es
-turns_end es =
-    record {
-      whole = length-replicate 256 (length es);
-      first = λ n below. get_or-replicate 256 n (length es) 0 below ∙ sym (nowhere n es);
-    }
-
-pub links_end : (links : List ℕ) (es : List Entry) → length links ≡ length es → AreLinks links (length es) es
-links_end links es whole =
-    record { whole = whole; lead = λ place e from at. absurd (omega (arith, from, slice_get_within es place e at)) }
 
 -- with the entry at this place, those of its process begin there,
 first_before : (turns : List ℕ) (place : ℕ) (es : List Entry) (e : Entry) (n : ℕ) (b : Bool) → slice_get es place ≡ Some e

@@ -61,20 +61,12 @@ fn with_word<'a>(entry: &EntryRef<'a>, word: u64) -> EntryRef<'a>
     ensures { result ≡ with_word word entry.now }
 {
     let step = match &entry.step {
-        Step::Make(cap) => Step::Make(*cap),
         Step::Call { cases, default, .. } => Step::Call {
             cases: CaseSlice::few(cases.as_slice()),
             default: *default,
             word,
         },
-        Step::Close(port) => Step::Close(*port),
-        Step::Exit => Step::Exit,
-        Step::Cancel(pid) => Step::Cancel(*pid),
-        Step::Start(pid) => Step::Start(*pid),
-        Step::Reopen { port, cap } => Step::Reopen {
-            port: *port,
-            cap: *cap,
-        },
+        _ => entry.step.with_cases(CaseSlice::few(&[])),
     };
     EntryRef {
         pid: entry.pid,

@@ -78,32 +78,24 @@ levels-more es before t old new whole was few sent received = record {
     within : (table : List ℕ) → length table ≡ PORT_NUMBERS → IfSome (move_of es t) (λ m. m.port.0 < length table)
     within table many = subst (λ n. IfSome (move_of es t) (λ m. m.port.0 < n)) (sym many) few
 
--- ---- where nothing moved, and where a value did on this side
+-- where nothing moved
 pub none-moved : (es : List Entry) (before : List Told) (t : Told) (old : Levels) → IsWhole old → AreLevels es before old → move_of es t ≡ None →
     AreLevels es (before ++ t ∷ []) old
 none-moved es before t old whole was is =
     levels-more es before t old old whole was (subst (λ o. IfSome o (λ m. m.port.0 < PORT_NUMBERS)) (sym is) tt)
     (sym (ap (with_move side.Send old.sent.items) is)) (sym (ap (with_move side.Recv old.received.items) is))
 
-pub one-sent : (es : List Entry) (before : List Told) (t : Told) (old new : Levels) (m : Move) → IsWhole old → AreLevels es before old →
-    IfSome (move_of es t) (λ m. m.port.0 < PORT_NUMBERS) → move_of es t ≡ Some m → m.side ≡ side.Send → new.sent.items ≡ one_more old.sent.items m.port.0 →
-    new.received.items ≡ old.received.items → AreLevels es (before ++ t ∷ []) new
-one-sent es before t old new m whole was few is by sent received =
-    levels-more es before t old new whole was few
-    (sent ∙ sym (ap (with_move side.Send old.sent.items) is ∙ ap (λ s. cond (is_same side.Send s) (one_more old.sent.items m.port.0) old.sent.items) by))
-    (received
-    ∙ sym (ap (with_move side.Recv old.received.items) is
-    ∙ ap (λ s. cond (is_same side.Recv s) (one_more old.received.items m.port.0) old.received.items) by))
-
-pub one-received : (es : List Entry) (before : List Told) (t : Told) (old new : Levels) (m : Move) → IsWhole old → AreLevels es before old →
-    IfSome (move_of es t) (λ m. m.port.0 < PORT_NUMBERS) → move_of es t ≡ Some m → m.side ≡ side.Recv → new.sent.items ≡ old.sent.items →
-    new.received.items ≡ one_more old.received.items m.port.0 → AreLevels es (before ++ t ∷ []) new
-one-received es before t old new m whole was few is by sent received =
-    levels-more es before t old new whole was few
-    (sent ∙ sym (ap (with_move side.Send old.sent.items) is ∙ ap (λ s. cond (is_same side.Send s) (one_more old.sent.items m.port.0) old.sent.items) by))
-    (received
-    ∙ sym (ap (with_move side.Recv old.received.items) is
-    ∙ ap (λ s. cond (is_same side.Recv s) (one_more old.received.items m.port.0) old.received.items) by))
+-- where a value did on this side
+pub one-moved : (es : List Entry) (before : List Told) (t : Told) (old new : Levels) (m : Move) (s : Side) → IsWhole old → AreLevels es before old →
+    IfSome (move_of es t) (λ m. m.port.0 < PORT_NUMBERS) → move_of es t ≡ Some m → m.side ≡ s →
+    new.sent.items ≡ cond (is_same side.Send s) (one_more old.sent.items m.port.0) old.sent.items →
+    new.received.items ≡ cond (is_same side.Recv s) (one_more old.received.items m.port.0) old.received.items → AreLevels es (before ++ t ∷ []) new
+one-moved es before t old new m s whole was few is at sent received =
+    levels-more es before t old new whole was few (on side.Send old.sent.items new.sent.items sent)
+    (on side.Recv old.received.items new.received.items received)
+  where
+    on : (side : Side) (table now : List ℕ) → now ≡ cond (is_same side s) (one_more table m.port.0) table → now ≡ with_move side table (move_of es t)
+    on side table now moved = moved ∙ sym (ap (with_move side table) is ∙ ap (λ s. cond (is_same side s) (one_more table m.port.0) table) at)
 
 -- a table that is the same everywhere
 pub all-same : {A : Type 0} (a : A) (n k : ℕ) → slice_index_or (replicate n a) k a ≡ a

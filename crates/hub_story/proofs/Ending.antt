@@ -10,7 +10,7 @@ use Rattle.std.proofs.Math.Seq.{take-suc}
 use Rattle.std.proofs.lemmas.Bool.{eqb-true, eqb-false}
 use Rattle.std.proofs.lemmas.List.{get_or-set_same, get_or-set_other, length-replicate, take_all}
 use Rattle.std.proofs.lemmas.List.Folds.{find-append}
-use Rattle.std.proofs.lemmas.Option.{none-some, slice_get-get_or}
+use Rattle.std.proofs.lemmas.Option.{none-some, slice_get-get_or, same_Some}
 use Rattle.hub_base.specs.declared.head.Head.{Head}
 use Rattle.hub_base.specs.declared.value.Pid.{Pid}
 use Rattle.hub_base.specs.Entry.{Entry, Step}
@@ -19,12 +19,13 @@ use Rattle.hub_base.specs.declared.event.Event.{Event}
 use Rattle.hub_base.specs.State.{opening}
 use Rattle.hub_base.specs.Values.{Turned, turns_after, refused}
 use Rattle.hub_base.proofs.Lists.{all_append, all_more}
+use Rattle.hub_base.proofs.Growing.{filter-agrees}
 use Rattle.hub_laws.specs.Replies.{is_parked}
 use Rattle.hub_story.specs.declared.told.Told.{Told}
 use Rattle.hub_story.specs.Told.{may_end, call_or, latest_asked, last_asked, tells_it, told_from, told, ends_it, end_of}
 use Rattle.hub_story.specs.Waiting.{still_waiting}
 use Rattle.hub_story.specs.Ends.{AreEnds, told_at, waits_by_place, with_end}
-use Rattle.hub_story.proofs.InTime.{all-given, all-any, same-inside}
+use Rattle.hub_story.proofs.InTime.{all-given, all-any}
 use Rattle.hub_story.proofs.Tellings.{length-turns}
 
 -- ---- ends
@@ -70,7 +71,7 @@ place-with all i t ends place low at old below =
 set-below : (i : ℕ) (ends : List (Option ℕ)) (a : ℕ) → ((place k : ℕ) → slice_index_or ends place None ≡ Some k → k < i + 1) →
     (place k : ℕ) → slice_index_or (slice_set ends a (Some i)) place None ≡ Some k → k < i + 1
 set-below i [] a old place k is = old place k is
-set-below i (x ∷ ends) zero old zero k is = let same : i ≡ k = same-inside is in omega arith
+set-below i (x ∷ ends) zero old zero k is = let same : i ≡ k = same_Some _ _ is in omega arith
 set-below i (x ∷ ends) zero old (suc place) k is = old (suc place) k is
 set-below i (x ∷ ends) (suc a) old zero k is = old zero k is
 set-below i (x ∷ ends) (suc a) old (suc place) k is = set-below i ends a (λ p j h. old (suc p) j h) place k is
@@ -131,7 +132,7 @@ all-places all i count ends done past so =
 -- ---- places
 step-below : (step : Step) (place k : ℕ) (before : Option ℕ) → ((a : ℕ) → before ≡ Some a → a < k) → place < k →
     (a : ℕ) → call_or step (Some place) before ≡ Some a → a < k
-step-below (Call cases default word) place k before old here a is = let same : place ≡ a = same-inside is in omega arith
+step-below (Call cases default word) place k before old here a is = let same : place ≡ a = same_Some _ _ is in omega arith
 step-below (Make cap) place k before old here a is = old a is
 step-below (Close p) place k before old here a is = old a is
 step-below Exit place k before old here a is = old a is
@@ -166,7 +167,7 @@ tells-below before t e x = by (may_end e.what)
     inside : (o : Option ℕ) → ((a : ℕ) → o ≡ Some a → a < length before + 1) → option_map tell o ≡ Some x → x.asked < length before + 1
     inside None below h = absurd cc
     inside (Some a) below h =
-        let same : a ≡ x.asked = ap (λ (y : Told). y.asked) (same-inside h) in
+        let same : a ≡ x.asked = ap (λ (y : Told). y.asked) (same_Some _ _ h) in
         let b = below a refl in
         omega (arith, same, b)
 
@@ -174,7 +175,7 @@ tells-below before t e x = by (may_end e.what)
     by true h = inside (last_asked e.pid 0 None (before ++ t ∷ [])) (λ a is.
         let b = last-below e.pid 0 None (before ++ t ∷ []) (λ a h. absurd cc) a is in
         omega (arith, b, length-append before (t ∷ []))) h
-    by false h = inside (Some (length before)) (λ a is. let same : length before ≡ a = same-inside is in omega (arith, same)) h
+    by false h = inside (Some (length before)) (λ a is. let same : length before ≡ a = same_Some _ _ is in omega (arith, same)) h
 
 asked-below : (before ts : List Turned) → AllByRecursion (λ x. x.asked < length before + length ts) (told_from before ts)
 asked-below before [] = tt
@@ -193,12 +194,6 @@ places-below h es =
     (λ x b. omega (arith, b, length-turns (opening h) es)) (asked-below [] (turns_after (opening h) es))
 
 -- ---- who waits
-pub filter-agrees : {A : Type 0} (P : A → Type 0) (p q : A → Bool) → ((x : A) → P x → p x ≡ q x) → (xs : List A) → AllByRecursion P xs →
-    filter p xs ≡ filter q xs
-filter-agrees P p q same [] all = refl
-filter-agrees P p q same (x ∷ xs) all =
-    ap (λ b. cond b (x ∷ filter p xs) (filter p xs)) (same x all.0) ∙ ap (λ l. cond (q x) (x ∷ l) l) (filter-agrees P p q same xs all.1)
-
 told-there : (all : List Told) (o : Option ℕ) → ((k : ℕ) → o ≡ Some k → k < length all) → is_some o ≡ is_some (told_at all o)
 told-there all None within = refl
 told-there all (Some k) within = by all k (within k refl)

@@ -6,6 +6,7 @@ use Rattle.std.specs.List.{AllByRecursion, filter_map, cons_option}
 use Rattle.std.specs.Option.{option_map, option_map_or}
 use Rattle.std.proofs.lemmas.List.{length-map}
 use Rattle.std.proofs.lemmas.List.Elements.{filter_map-append}
+use Rattle.std.proofs.lemmas.Option.{same_Some}
 use Rattle.hub_base.specs.declared.head.Head.{Head}
 use Rattle.hub_base.specs.declared.value.Port.{Port}
 use Rattle.hub_base.specs.declared.value.Value.{Value}
@@ -39,22 +40,19 @@ pub all-any : {A : Type 0} (P : A → Type 0) → ((x : A) → P x) → (xs : Li
 all-any P f [] = tt
 all-any P f (x ∷ xs) = (f x, all-any P f xs)
 
-pub same-inside : {A : Type 0} {x y : A} → Some x ≡ Some y → x ≡ y
-same-inside h = cc
-
 moved-told : (pick : Option Case → Outcome → Option Value) (es : List Entry) (t : Told) (m : Moved) → moved_by pick es t ≡ Some m → m.told ≡ t
 moved-told pick es t m = by (of_what pick (cases_at es t.asked) t.event.what)
   where
     by : (o : Option Value) → option_map (λ v. record { told = t; value = v }) o ≡ Some m → m.told ≡ t
     by None h = absurd cc
-    by (Some v) h = ap (λ (x : Moved). x.told) (sym (same-inside h))
+    by (Some v) h = ap (λ (x : Moved). x.told) (sym (same_Some _ _ h))
 
 pub tells-by : (before : List Turned) (t : Turned) (e : Event) (x : Told) → tells_it before t e ≡ Some x → x.by ≡ length before
 tells-by before t e x = by (asked_by before t e)
   where
     by : (o : Option ℕ) → option_map (λ a. record { asked = a; by = length before; event = e }) o ≡ Some x → x.by ≡ length before
     by None h = absurd cc
-    by (Some a) h = ap (λ (x : Told). x.by) (sym (same-inside h))
+    by (Some a) h = ap (λ (x : Told). x.by) (sym (same_Some _ _ h))
 
 -- what a turn tells is told by it
 pub turn-by : (before : List Turned) (t : Turned) → AllByRecursion (λ x. x.by ≡ length before) (filter_map (tells_it before t) t.events)

@@ -5,6 +5,7 @@ use Rattle.std.specs.List.{AllByRecursion, filter_map, find}
 use Rattle.std.specs.Option.{option_map, option_or}
 use Rattle.std.proofs.lemmas.List.{at_drop_more, drop_all}
 use Rattle.std.proofs.lemmas.Bool.{eqb-false, eqb-true, ltb-true}
+use Rattle.std.proofs.lemmas.Option.{same_Some}
 use Rattle.hub_base.specs.declared.head.Head.{Head}
 use Rattle.hub_base.specs.Entry.{Entry}
 use Rattle.hub_base.specs.declared.event.Event.{Event}
@@ -16,12 +17,15 @@ use Rattle.hub_base.proofs.Lists.{all_append}
 use Rattle.hub_laws.specs.Replies.{is_parked}
 use Rattle.hub_story.specs.declared.told.Told.{Told}
 use Rattle.hub_story.specs.Told.{end_of, ends_it, last_asked, may_end, tells_it, told, told_from}
-use Rattle.hub_story.specs.Levels.{came_by}
+use Rattle.hub_story.specs.Levels.{came_by, told_by}
 use Rattle.hub_story.specs.Outlines.{ends_late}
 use Rattle.hub_story.specs.Stories.{IsFrom}
+use Rattle.hub_story.specs.Tellings.{IsTelling}
 use Rattle.hub_story.proofs.Ending.{tells-below}
-use Rattle.hub_story.proofs.InTime.{all-any, all-given, same-inside, tells-by}
+use Rattle.hub_story.proofs.InTime.{all-any, all-given, tells-by}
 use Rattle.hub_story.proofs.Ordered.{in-order}
+use Rattle.hub_story.proofs.Filling.{told_by-all, told_by-take}
+use Rattle.hub_story.proofs.Walks.{came-more}
 
 -- ---- an event is told of no later entry than the one by whose step it came
 asked-first : (before ts : List Turned) → AllByRecursion (λ x. x.asked ≤ x.by) (told_from before ts)
@@ -41,7 +45,7 @@ parks-own before t e x is parks = by (may_end e.what) refl is
 
     told-so : (o : Option ℕ) → option_map tell o ≡ Some x → e ≡ x.event
     told-so None h = absurd cc
-    told-so (Some a) h = ap (λ (y : Told). y.event) (same-inside h)
+    told-so (Some a) h = ap (λ (y : Told). y.event) (same_Some _ _ h)
 
     ends-none : (w : What) → may_end w ≡ true → is_parked w ≡ true → ⊥
     ends-none (what.Fired i o) a b = absurd cc
@@ -57,7 +61,7 @@ parks-own before t e x is parks = by (may_end e.what) refl is
         x.asked ≡ x.by
     by true ends h =
         absurd (ends-none e.what ends (ap (λ (y : Event). is_parked y.what) (told-so (last_asked e.pid 0 None (before ++ t ∷ [])) h) ∙ parks))
-    by false ends h = let same : tell (length before) ≡ x = same-inside h in sym (ap (λ (y : Told). y.asked) same) ∙ ap (λ (y : Told). y.by) same
+    by false ends h = let same : tell (length before) ≡ x = same_Some _ _ h in sym (ap (λ (y : Told). y.asked) same) ∙ ap (λ (y : Told). y.by) same
 
 all-parked : (before ts : List Turned) → AllByRecursion (λ x. is_parked x.event.what ≡ true → x.asked ≡ x.by) (told_from before ts)
 all-parked before [] = tt
@@ -67,7 +71,7 @@ all-parked before (t ∷ ts) =
     (λ e x h any. parks-own before t e x h) t.events (all-any (λ e. ℕ) (λ e. 0) t.events))
     (all-parked (before ++ t ∷ []) ts)
 
-pub parked-own : (h : Head) (es : List Entry) → AllByRecursion (λ x. is_parked x.event.what ≡ true → x.asked ≡ x.by) (told h es)
+parked-own : (h : Head) (es : List Entry) → AllByRecursion (λ x. is_parked x.event.what ≡ true → x.asked ≡ x.by) (told h es)
 parked-own h es = all-parked [] (turns_after (opening h) es)
 
 -- ---- those of later steps came by no earlier one
@@ -130,13 +134,13 @@ found-passes {X} p q (y ∷ ys) x h = by (q y) refl (p y) refl h (found-passes p
     by : (b : Bool) → q y ≡ b → (c : Bool) → p y ≡ c → find p (cond b (y ∷ filter q ys) (filter q ys)) ≡ Some x →
         (find p (filter q ys) ≡ Some x → q x ≡ true) → q x ≡ true
     by true qs true ps found rest =
-        let same : y ≡ x = same-inside (ap (λ b. cond b (Some y) (find p (filter q ys))) (sym ps) ∙ found) in
+        let same : y ≡ x = same_Some _ _ (ap (λ b. cond b (Some y) (find p (filter q ys))) (sym ps) ∙ found) in
         ap q (sym same) ∙ qs
     by true qs false ps found rest = rest (ap (λ b. cond b (Some y) (find p (filter q ys))) (sym ps) ∙ found)
     by false qs c ps found rest = rest found
 
 -- an entry that ended by a later step, or waits, has no end of its own step
-pub late-is : (h : Head) (es : List Entry) (place : ℕ) → ((t : Told) → end_of (told h es) place ≡ Some t → place < t.by) →
+late-is : (h : Head) (es : List Entry) (place : ℕ) → ((t : Told) → end_of (told h es) place ≡ Some t → place < t.by) →
     end_of (filter ends_late (told h es)) place ≡ end_of (told h es) place
 late-is h es place waits = by (end_of (came_by place (told h es)) place) refl
   where
@@ -146,6 +150,22 @@ late-is h es place waits = by (end_of (came_by place (told h es)) place) refl
         let later = waits t (end-is h es place ∙ ap (λ o. option_or o (end_of (filter ends_late (told h es)) place)) own) in
         let same = eqb-true t.by place (found-passes (ends_it place) (λ (t : Told). t.by == place) (told h es) t own) in
         absurd (omega (arith, later, same))
+
+-- ---- what all that a journal tells is like
+grown : (h : Head) (es : List Entry) (place : ℕ) → place < length es →
+    told_by (place + 1) (told h es) ≡ told_by place (told h es) ++ came_by place (told h es)
+grown h [] place below = absurd (omega (arith, below))
+grown h (e ∷ es) place below = came-more h (e ∷ es) place e below
+
+pub telling : (h : Head) (es : List Entry) → IsTelling (length es) (told h es)
+telling h es = record {
+  in_order = in-order h es;
+  none = told_by-take h es 0;
+  grown = grown h es;
+  within = told_by-all h es (length es) (omega arith);
+  parked = parked-own h es;
+  late = late-is h es;
+}
 
 -- ---- the first that passes a test
 pub found-here : {X : Type 0} (p : X → Bool) (xs : List X) (i : ℕ) (d : X) → i < length xs → d ≡ get_or xs i d → p d ≡ true →

@@ -3,7 +3,7 @@ pub mod Stories
 pub mod Passages
 pub mod InTime
 pub mod Ordered
-pub mod Filters
+pub mod Beside
 pub mod Tellings
 pub mod Ending
 pub mod Leavers
@@ -12,7 +12,6 @@ pub mod Once
 pub mod Waits
 pub mod Filling
 pub mod Walks
-pub mod Editions
 pub mod OfPorts
 pub mod Clocks
 pub mod Gone
@@ -21,6 +20,7 @@ pub mod Counted
 pub mod Pushed
 pub mod Table
 pub mod Pairs
+pub mod ToldLists
 pub mod Outlined
 pub mod Late
 pub mod Outsiders

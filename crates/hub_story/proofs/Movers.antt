@@ -6,7 +6,7 @@ use Rattle.std.specs.List.{cons_option, filter_map}
 use Rattle.std.specs.Option.{option_and_then, option_map}
 use Rattle.std.proofs.lemmas.Bool.{eqb-true, eqb-false}
 use Rattle.std.proofs.lemmas.List.{get_or-set_same, get_or-set_other}
-use Rattle.std.proofs.lemmas.List.Elements.{filter_map-append}
+use Rattle.std.proofs.lemmas.List.Elements.{filter_map-append, filter_more}
 use Rattle.hub_base.specs.declared.value.Port.{Port}
 use Rattle.hub_base.specs.declared.value.Value.{Value}
 use Rattle.hub_base.specs.Entry.{Entry}
@@ -27,7 +27,6 @@ use Rattle.hub_story.specs.OfPorts.{things_on}
 use Rattle.hub_story.specs.Passing.{moved_by, receives, sends}
 use Rattle.hub_story.specs.Receivers.{AreReceivers, are_gone}
 use Rattle.hub_story.specs.Sides.{value_on}
-use Rattle.hub_story.proofs.Filters.{filter-take}
 use Rattle.hub_story.proofs.Gone.{gone-is}
 use Rattle.hub_story.proofs.OneSide.{moved-on}
 
@@ -128,7 +127,7 @@ pub by-then : (es : List Entry) (all : List Told) (i step : ℕ) (x : Told) (new
 by-then es all i step x new below is early so =
     subst (λ l. AreLast es l new)
     (ap (λ l. told_by (step + 1) (take i all) ++ l) (sym (one x (omega (arith, early))) ∙ ap (λ t. filter (is_by step) (t ∷ [])) is)
-    ∙ sym (filter-take (is_by step) all i x below)) so
+    ∙ sym (filter_more (is_by step) all i x below)) so
   where
     one : (t : Told) → t.by < step + 1 → filter (is_by step) (t ∷ []) ≡ t ∷ []
     one t below = let hit : nat_lt t.by (step + 1) ≡ true = grind arith in rw hit refl
@@ -139,7 +138,7 @@ not-by-then es all i step x moves below is late so =
     subst (λ l. AreLast es l moves)
     (sym (append-nil (told_by (step + 1) (take i all)))
     ∙ ap (λ l. told_by (step + 1) (take i all) ++ l) (sym (none x late) ∙ ap (λ t. filter (is_by step) (t ∷ [])) is)
-    ∙ sym (filter-take (is_by step) all i x below)) so
+    ∙ sym (filter_more (is_by step) all i x below)) so
   where
     none : (t : Told) → step < t.by → filter (is_by step) (t ∷ []) ≡ []
     none t above = let miss : nat_lt t.by (step + 1) ≡ false = grind arith in rw miss refl

@@ -1,6 +1,6 @@
 -- Which calls moved values, after one event more.
-use Rattle.std.proofs.Common.{◌≡◌, ◌<◌, ◌+◌, ◌==◌, ◌&&◌, ℕ, Bool, true, false, cond, List, [], ◌∷◌, ◌++◌, map, length, take, get_or, Option, None, Some}
-use Rattle.std.proofs.Common.{refl, ap, ◌∙◌, sym, subst, append-nil}
+use Rattle.std.proofs.Common.{◌≡◌, ◌==◌, ◌&&◌, Bool, true, false, cond, List, [], ◌∷◌, ◌++◌, map, Option, None, Some}
+use Rattle.std.proofs.Common.{refl, ap, ◌∙◌, sym, append-nil}
 use Rattle.std.specs.List.{cons_option, filter_map}
 use Rattle.std.specs.Option.{option_and_then, option_map}
 use Rattle.std.proofs.lemmas.List.{map-append}
@@ -21,7 +21,6 @@ use Rattle.hub_story.specs.OfPorts.{one_of, things_on}
 use Rattle.hub_story.specs.Passing.{moved_by}
 use Rattle.hub_story.specs.PortMoves.{AreMoves, move_at}
 use Rattle.hub_story.specs.Sides.{value_on}
-use Rattle.hub_story.proofs.Filters.{taken-next}
 use Rattle.hub_story.proofs.OneSide.{moved-on}
 
 abbrev pub call_of : Told → PortMove
@@ -65,38 +64,17 @@ none-pushed es before t old was is = record {
     nothing : (s : Side) (p : Port) (l : List PortMove) → l ≡ l ++ pushed s p t (move_of es t)
     nothing s p l = sym (append-nil l) ∙ ap (λ o. l ++ pushed s p t o) (sym is)
 
-pub sent-pushed : (es : List Entry) (before : List Told) (t : Told) (old new : PortMoves) (m : Move) → AreMoves es before old → move_of es t ≡ Some m →
-    m.side ≡ side.Send → ((p : Port) → things_on new.sent p ≡ things_on old.sent p ++ one_of m.port p (call_of t)) →
-    new.received ≡ old.received → AreMoves es (before ++ t ∷ []) new
-sent-pushed es before t old new m was is on sent received = record {
-  sent = λ p.
-      side-more side.Send es before t p _ _ (was.sent p)
-      (sent p ∙ ap (λ l. things_on old.sent p ++ l)
-      (sym (ap (pushed side.Send p t) is ∙ ap (λ s. cond (is_same side.Send s) (one_of m.port p (call_of t)) []) on)));
-  received = λ p.
-      side-more side.Recv es before t p _ _ (was.received p)
-      (ap (λ l. things_on l p) received ∙ sym (append-nil (things_on old.received p))
-      ∙ ap (λ l. things_on old.received p ++ l)
-      (sym (ap (pushed side.Recv p t) is ∙ ap (λ s. cond (is_same side.Recv s) (one_of m.port p (call_of t)) []) on)));
+pub one-pushed : (es : List Entry) (before : List Told) (t : Told) (old new : PortMoves) (m : Move) (s : Side) → AreMoves es before old →
+    move_of es t ≡ Some m → m.side ≡ s →
+    ((p : Port) → things_on new.sent p ≡ things_on old.sent p ++ cond (is_same side.Send s) (one_of m.port p (call_of t)) []) →
+    ((p : Port) → things_on new.received p ≡ things_on old.received p ++ cond (is_same side.Recv s) (one_of m.port p (call_of t)) []) →
+    AreMoves es (before ++ t ∷ []) new
+one-pushed es before t old new m s was is at sent received = record {
+  sent = λ p. side-more side.Send es before t p _ _ (was.sent p) (on side.Send p _ _ (sent p));
+  received = λ p. side-more side.Recv es before t p _ _ (was.received p) (on side.Recv p _ _ (received p));
 }
-
-pub received-pushed : (es : List Entry) (before : List Told) (t : Told) (old new : PortMoves) (m : Move) → AreMoves es before old → move_of es t ≡ Some m →
-    m.side ≡ side.Recv → new.sent ≡ old.sent →
-    ((p : Port) → things_on new.received p ≡ things_on old.received p ++ one_of m.port p (call_of t)) → AreMoves es (before ++ t ∷ []) new
-received-pushed es before t old new m was is on sent received = record {
-  sent = λ p.
-      side-more side.Send es before t p _ _ (was.sent p)
-      (ap (λ l. things_on l p) sent ∙ sym (append-nil (things_on old.sent p))
-      ∙ ap (λ l. things_on old.sent p ++ l)
-      (sym (ap (pushed side.Send p t) is ∙ ap (λ s. cond (is_same side.Send s) (one_of m.port p (call_of t)) []) on)));
-  received = λ p.
-      side-more side.Recv es before t p _ _ (was.received p)
-      (received p
-      ∙ ap (λ l. things_on old.received p ++ l)
-      (sym (ap (pushed side.Recv p t) is ∙ ap (λ s. cond (is_same side.Recv s) (one_of m.port p (call_of t)) []) on)));
-}
-
-pub moves-next : (es : List Entry) (told : List Told) (i : ℕ) (x : Told) (new : PortMoves) → i < length told → x ≡ get_or told i x →
-    AreMoves es (take i told ++ x ∷ []) new → AreMoves es (take (i + 1) told) new
-moves-next es told i x new below is so =
-    subst (λ l. AreMoves es l new) (ap (λ t. take i told ++ t ∷ []) is ∙ sym (taken-next told i x below)) so
+  where
+    on : (side : Side) (p : Port) (old new : List PortMove) → new ≡ old ++ cond (is_same side s) (one_of m.port p (call_of t)) [] →
+        new ≡ old ++ pushed side p t (move_of es t)
+    on side p old new moved =
+        moved ∙ ap (λ l. old ++ l) (sym (ap (pushed side p t) is ∙ ap (λ s. cond (is_same side s) (one_of m.port p (call_of t)) []) at))

@@ -6,6 +6,7 @@ use Rattle.std.specs.List.{AllByRecursion, filter_map, cons_option, find, list_a
 use Rattle.std.specs.Option.{option_map, option_map_or, option_or}
 use Rattle.std.proofs.lemmas.Bool.{eqb-true, eqb-false}
 use Rattle.std.proofs.lemmas.List.Folds.{find-append}
+use Rattle.std.proofs.lemmas.Option.{same_Some}
 use Rattle.hub_base.specs.declared.value.Pid.{Pid}
 use Rattle.hub_base.specs.Entry.{Entry, Step}
 use Rattle.hub_base.specs.declared.entry.Step.TheVariants.{Make, Call, Close, Exit, Cancel, Start, Reopen}
@@ -28,7 +29,7 @@ use Rattle.hub_laws.proofs.Ready.{admitted, by-refusal}
 use Rattle.hub_story.specs.declared.told.Told.{Told}
 use Rattle.hub_story.specs.Told.{asked_by, may_end, call_or, latest_asked, last_asked, tells_it, ends_it, end_of}
 use Rattle.hub_story.specs.Waiting.{still_waiting}
-use Rattle.hub_story.proofs.InTime.{all-given, same-inside}
+use Rattle.hub_story.proofs.InTime.{all-given}
 use Rattle.hub_story.proofs.Stories.{Stand}
 use Rattle.hub_story.proofs.Leavers.{filter-both}
 
@@ -39,7 +40,7 @@ IsOf es pid a = (e : Entry) × (slice_get es a ≡ Some e) × (e.pid.0 ≡ pid.0
 
 step-of : (es : List Entry) (pid : Pid) (place : ℕ) (step : Step) (before : Option ℕ) → IsOf es pid place → ((a : ℕ) → before ≡ Some a → IsOf es pid a) →
     (a : ℕ) → call_or step (Some place) before ≡ Some a → IsOf es pid a
-step-of es pid place (Call cases default word) before own old a is = subst (IsOf es pid) (same-inside is) own
+step-of es pid place (Call cases default word) before own old a is = subst (IsOf es pid) (same_Some _ _ is) own
 step-of es pid place (Make cap) before own old a is = old a is
 step-of es pid place (Close p) before own old a is = old a is
 step-of es pid place Exit before own old a is = old a is
@@ -69,7 +70,7 @@ pub last-apart : (es : List Entry) (p q : Pid) (ts : List Turned) (a : ℕ) → 
 last-apart es p q ts a stand mine theirs =
     let m = last-of es p 0 None ts stand (λ a h. absurd cc) a mine in
     let t = last-of es q 0 None ts stand (λ a h. absurd cc) a theirs in
-    let same : m.0 ≡ t.0 = same-inside (sym m.1 ∙ t.1) in
+    let same : m.0 ≡ t.0 = same_Some _ _ (sym m.1 ∙ t.1) in
     sym m.2 ∙ ap (λ (e : Entry). e.pid.0) same ∙ t.2
 
 -- ---- which events end a call
@@ -197,7 +198,7 @@ tells-event ts t x y = by (asked_by ts t x)
   where
     by : (o : Option ℕ) → option_map (λ a. record { asked = a; by = length ts; event = x }) o ≡ Some y → y.event ≡ x
     by None h = absurd cc
-    by (Some a) h = ap (λ (y : Told). y.event) (sym (same-inside h))
+    by (Some a) h = ap (λ (y : Told). y.event) (sym (same_Some _ _ h))
 
 -- where an entry is found for each event, each is told
 pub told-whole : (ts : List Turned) (t : Turned) (xs : List Event) → AllByRecursion (λ x. (a : ℕ) × (asked_by ts t x ≡ Some a)) xs →

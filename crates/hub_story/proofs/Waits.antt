@@ -7,6 +7,7 @@ use Rattle.std.specs.Option.{option_map, option_map_or}
 use Rattle.std.proofs.lemmas.Bool.{or_parts}
 use Rattle.std.proofs.lemmas.List.{map-append}
 use Rattle.std.proofs.lemmas.List.Elements.{filter-append}
+use Rattle.std.proofs.lemmas.Option.{same_Some}
 use Rattle.hub_base.specs.declared.head.Head.{Head}
 use Rattle.hub_base.specs.declared.value.Pid.{Pid}
 use Rattle.hub_base.specs.declared.case.Case.{Case}
@@ -17,6 +18,7 @@ use Rattle.hub_base.specs.Steps.{tells}
 use Rattle.hub_base.specs.Runs.{state, events, moves}
 use Rattle.hub_base.specs.Values.{Turned, turns_after, refused, is_fault}
 use Rattle.hub_base.proofs.Lists.{all_append, all_more}
+use Rattle.hub_base.proofs.Growing.{filter-agrees}
 use Rattle.hub_laws.specs.Answers.{ends_waiting}
 use Rattle.hub_laws.specs.Replies.{is_parked, is_told}
 use Rattle.hub_laws.specs.Sound.{is_among}
@@ -29,9 +31,9 @@ use Rattle.hub_story.specs.declared.told.Told.{Told}
 use Rattle.hub_story.specs.Told.{asked_by, may_end, call_or, latest_asked, last_asked, tells_it, told, ends_it, end_of}
 use Rattle.hub_story.specs.Waiting.{still_waiting, open_call}
 use Rattle.hub_story.specs.Laws.{EndingLaw, EventsLaw, WaitingLaw}
-use Rattle.hub_story.proofs.InTime.{same-inside, turns-entry, told-entry}
+use Rattle.hub_story.proofs.InTime.{turns-entry, told-entry}
 use Rattle.hub_story.proofs.Stories.{Stand, at-cases, stand-turns, stand-more}
-use Rattle.hub_story.proofs.Ending.{filter-agrees, places-below}
+use Rattle.hub_story.proofs.Ending.{places-below}
 use Rattle.hub_story.proofs.Tellings.{last_asked-entry, length-turns}
 use Rattle.hub_story.proofs.Leavers.{leave-filter}
 use Rattle.hub_story.proofs.Steps.{ended_by, opens, old-waits, new-waits, map-filter, Waiting, ended-told, Stepped, stepped}
@@ -272,7 +274,7 @@ next-waits all h es e stand waits =
     unended =
         both Known (λ w. end_of (told h es) w.asked ≡ None) (λ w. Unended w.event.pid)
         (λ w known none a is.
-        let same : w.asked ≡ a = same-inside (sym known.last ∙ is) in
+        let same : w.asked ≡ a = same_Some _ _ (sym known.last ∙ is) in
         (ap (end_of (told h es)) (sym same) ∙ none, subst (λ k. k < length ts ⊎ is_parked st.answer ≡ true) same known.place))
         (sw ++ pn) each not_ended
 

@@ -8,7 +8,7 @@ use Rattle.std.proofs.Math.Seq.{take-suc}
 use Rattle.std.proofs.lemmas.Bool.{eq-eqb, eqb-true, lt-ltb, ltb-true}
 use Rattle.std.proofs.lemmas.List.{length-take-le}
 use Rattle.std.proofs.lemmas.List.Elements.{filter-append}
-use Rattle.std.proofs.lemmas.Option.{get_or_from_slice_get}
+use Rattle.std.proofs.lemmas.Option.{get_or_from_slice_get, same_Some}
 use Rattle.hub_base.specs.declared.head.Head.{Head}
 use Rattle.hub_base.specs.Entry.{Entry}
 use Rattle.hub_base.specs.declared.event.Event.{Event}
@@ -22,7 +22,7 @@ use Rattle.hub_story.specs.Told.{last_asked, latest_asked, tells_it, told}
 use Rattle.hub_story.specs.LastCalls.{AreLast, asked_of, call_in, tells_of, with_call}
 use Rattle.hub_story.specs.Levels.{came_by, told_by}
 use Rattle.hub_story.proofs.Filling.{told_by-take}
-use Rattle.hub_story.proofs.InTime.{all-any, all-given, same-inside, told-entry, turn-by, turns-entry}
+use Rattle.hub_story.proofs.InTime.{all-any, all-given, told-entry, turn-by, turns-entry}
 use Rattle.hub_story.proofs.Tellings.{all-same, call_in-with, last_asked-entry, length-turns, length-with_call}
 
 -- ---- what comes by one step
@@ -92,7 +92,7 @@ told-by calls place e x = by (asked_of calls place e)
   where
     by : (o : Option ℕ) → option_map (λ a. record { asked = a; by = place; event = e }) o ≡ Some x → x.by ≡ place
     by None h = absurd cc
-    by (Some a) h = ap (λ (x : Told). x.by) (sym (same-inside h))
+    by (Some a) h = ap (λ (x : Told). x.by) (sym (same_Some _ _ h))
 
 all-by : (calls : List (Option ℕ)) (place : ℕ) (events : List Event) → AllByRecursion (λ x. x.by ≡ place) (filter_map (tells_of calls place) events)
 all-by calls place events =

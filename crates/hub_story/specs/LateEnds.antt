@@ -7,5 +7,5 @@ use Rattle.hub_story.specs.Outlines.{ends_late}
 
 -- all that ended late of what is told, and of so many entries the places of their ends
 pub record AreLate (all : List Told) (count : ℕ) (late : LateEnds) : Type 0 where
-  pub ended : late.ended.items ≡ filter ends_late all
-  pub places : AreEnds late.ended.items count late.places.items
+  pub ended : late.ended ≡ filter ends_late all
+  pub places : AreEnds late.ended count late.places.items

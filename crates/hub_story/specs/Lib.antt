@@ -21,6 +21,9 @@ pub mod LastMoves
 pub mod Whom
 pub mod PortMoves
 pub mod Partners
+pub mod ToldLists
+pub mod ToldKeeps
 pub mod Outlines
+pub mod Tellings
 pub mod LateEnds
 pub mod StoryRows

@@ -22,4 +22,4 @@ pub record IsOutline (es : List Entry) (all : List Told) (o : Outline) : Type 0 
   pub moves : AreMoves es all o.moves
   pub made : o.made.items ≡ filter (λ t. is_made t.event.what) all
   pub turns : o.turns.items ≡ filter (is_turn es) all
-  pub ended : o.ended.items ≡ filter ends_late all
+  pub ended : o.ended ≡ filter ends_late all

@@ -1,10 +1,11 @@
 -- Who waits: at the end of a journal, and where a step stalls.
-use Rattle.std.specs.Prelude.{ℕ, ◌==◌, ◌&&◌, Bool, not, List, filter, is_some}
+use Rattle.std.specs.Prelude.{ℕ, ◌&&◌, not, List, filter, is_some}
 use Rattle.hub_base.specs.Entry.{Entry}
 use Rattle.hub_base.specs.State.{OpenCall}
 pub use Rattle.hub_base.specs.Values.{is_stalled}
 use Rattle.hub_laws.specs.Replies.{is_parked}
 use Rattle.hub_story.specs.declared.told.Told.{Told}
+use Rattle.hub_story.specs.Levels.{came_by}
 use Rattle.hub_story.specs.Told.{end_of}
 use Rattle.hub_base.specs.Values.{cases_at}
 
@@ -17,10 +18,6 @@ still_waiting all =
 abbrev pub open_call : List Entry → Told → OpenCall
 open_call es t = record { pid = t.event.pid; cases = cases_at es t.asked }
 
--- this one did, after the entry at this place
-abbrev pub is_stalled_by : ℕ → Told → Bool
-is_stalled_by place t = is_stalled t.event.what && (t.by == place)
-
 -- the calls that ended as everybody waited after the entry at this place, by arrival
 abbrev pub stalled_by : List Told → ℕ → List Told
-stalled_by all place = filter (is_stalled_by place) all
+stalled_by all place = filter (λ t. is_stalled t.event.what) (came_by place all)

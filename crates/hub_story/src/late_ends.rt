@@ -10,14 +10,15 @@ ghost use Rattle.hub_story.specs.Outlines.{ends_late};
 ghost use Rattle.hub_story.specs.Told.{end_of, ends_it, told};
 
 use crate::Told;
-use crate::ends::ends_of;
+use crate::ends::{end_at, note_end};
+use crate::told_list::ToldList;
 use std::alloc::{AllocError, Global};
 
 /// The ends of calls that came by later steps than their own.
 #[derive(Drop)]
 pub struct LateEnds {
     /// In the order in which they came.
-    ended: Vec<Told>,
+    ended: ToldList,
     /// For each entry where its own stands among them.
     places: Vec<Option<u32>>,
 }
@@ -41,22 +42,33 @@ fn own_end(place: usize, came: &[Told]) -> Option<Told>
     None
 }
 
+/// Of so many entries, where among these stands how each ended.
+fn places_of(alloc: Global, ended: &ToldList, count: usize) -> Result<Vec<Option<u32>>, AllocError>
+    ensures { IfOk result (λ places. AreEnds ended.now count places.items) }
+{
+    let mut places = vec![in alloc; None; count]?;
+    for place in 0..ended.len() {
+        note_end(&mut places, place, &ended.told(place))?;
+    }
+    Ok(places)
+}
+
 impl LateEnds {
     /// These, of so many entries.
-    pub fn of(alloc: Global, ended: Vec<Told>, count: usize) -> Result<LateEnds, AllocError>
-        ensures { (all : List Event) → ended.items ≡ filter ends_late all → IfOk result (AreLate all count) }
+    pub fn of(alloc: Global, ended: ToldList, count: usize) -> Result<LateEnds, AllocError>
+        ensures { (all : List Event) → ended ≡ filter ends_late all → IfOk result (AreLate all count) }
     {
-        let places = ends_of(alloc, &ended, count)?;
+        let places = places_of(alloc, &ended, count)?;
         Ok(LateEnds { ended, places })
     }
 
     /// How the entry at this place ended, if it did by a later step than its own.
     pub fn at(&self, place: usize) -> Option<Told>
-        ensures { result ≡ told_at self.now.ended.items (slice_index_or self.now.places.items place None) }
+        ensures { result ≡ told_at self.now.ended (slice_index_or self.now.places.items place None) }
     {
-        match self.places.get(place) {
-            Some(Some(told)) => self.ended.get(*told as usize).copied(),
-            _ => None,
+        match end_at(&self.places, place) {
+            Some(end) => self.ended.get(end as usize),
+            None => None,
         }
     }
 

@@ -27,6 +27,7 @@ mod port_moves;
 mod receivers;
 mod story;
 mod told;
+mod told_list;
 mod walk;
 mod window;
 
@@ -38,21 +39,19 @@ pub use exits::{comes_back, leaves};
 pub use guess::whom;
 pub use last_moves::{AtPort, LastMoves, Mover};
 pub use late_ends::LateEnds;
-pub use laws::{
-    entries_end_once, events_are_told, levels_are_told, passages_are_in_time, passages_are_told,
-    sends_are_told, waiting_is_told,
-};
+pub use laws::stories_are_so;
 pub use levels::{Level, Levels};
 pub use lives::{closed_port, most_room, reopened_port};
 pub use moved::{Moved, Passage};
 pub use moves::{Move, move_of};
 pub use outline::Outline;
-pub use outside::{Outsider, any_told_to, outside_of};
-pub use partners::{all_partners, partners_of};
+pub use outside::{Outsider, outside_of};
+pub use partners::partners_of;
 pub use passing::moved_by;
 pub use port_moves::{PortMove, PortMoves};
 pub use receivers::Receivers;
 pub use story::{Story, story_of};
 pub use told::Told;
+pub use told_list::ToldList;
 pub use walk::Walk;
 pub use window::Window;

@@ -6,11 +6,13 @@ ghost use Rattle.hub_base.specs.Head.{IsHead};
 ghost use Rattle.hub_story.specs.declared.told.Told.{Told as Event};
 ghost use Rattle.hub_story.specs.Levels.{told_by};
 ghost use Rattle.hub_story.specs.Outlines.{IsOutline, ends_late, kept};
+ghost use Rattle.hub_story.specs.Tellings.{IsTelling};
 ghost use Rattle.hub_story.specs.Told.{told};
 ghost use Rattle.hub_story.specs.Walks.{IsAt};
 
 use crate::lives::is_turn;
 use crate::partners::is_made;
+use crate::told_list::ToldList;
 use crate::{PortMoves, Told, Walk};
 use hub_base::NoMemory;
 use hub_core::{CaseRoom, ShortEntries, ShortJournal};
@@ -26,7 +28,7 @@ pub struct Outline {
     /// That one was closed or opened again, each time.
     pub turns: Vec<Told>,
     /// That a call ended by a later step than its own, each time.
-    pub ended: Vec<Told>,
+    pub ended: ToldList,
 }
 
 /// Whether the event says that a call ended by a later step than its own.
@@ -47,6 +49,16 @@ fn keep_if(list: &mut Vec<Told>, told: &Told, wanted: bool) -> Result<(), AllocE
     Ok(())
 }
 
+/// Keeps the event, if by it a call ended late.
+fn keep_late(list: &mut ToldList, told: &Told) -> Result<(), AllocError>
+    ensures { OnOk result (list.new ≡ list.old ++ kept (ends_late told.now) told.now) }
+{
+    if !ends_late(told) {
+        return Ok(());
+    }
+    list.push(told)
+}
+
 impl Outline {
     /// Of nothing.
     fn new(alloc: Global) -> Result<Outline, AllocError>
@@ -56,7 +68,7 @@ impl Outline {
             moves: PortMoves::new(alloc)?,
             made: Vec::new(alloc),
             turns: Vec::new(alloc),
-            ended: Vec::new(alloc),
+            ended: ToldList::new(alloc),
         })
     }
 
@@ -68,7 +80,7 @@ impl Outline {
         self.moves.note(entries, told)?;
         keep_if(&mut self.made, told, is_made(told))?;
         keep_if(&mut self.turns, told, is_turn(entries, told))?;
-        keep_if(&mut self.ended, told, ends_late(told))
+        keep_late(&mut self.ended, told)
     }
 
     /// Takes in these events, in order, behind those so far.
@@ -99,12 +111,14 @@ impl Outline {
         Ok(())
     }
 
-    /// The outline of a journal of 1 to `MOST_PROCS` processes, by one walk. It keeps 8 bytes of each value that was sent or received,
-    /// and an event of each call that waited.
+    /// The outline of a journal of 1 to `MOST_PROCS` processes, by one walk. It keeps 8 bytes of each value that was sent or
+    /// received, and 20 of each call that waited, beside what it received.
     pub fn of(alloc: Global, journal: &ShortJournal) -> Result<Outline, NoMemory>
         requires head { IsHead journal.now.head }
         requires few { length journal.now.entries < 2 ^ 32 - 1 }
-        ensures { IfOk result (IsOutline journal.now.entries (told journal.now.head journal.now.entries)) }
+        ensures outline { IfOk result (IsOutline journal.now.entries (told journal.now.head journal.now.entries)) }
+        ensures telling { IfOk result (λ _outline.
+            IsTelling (length journal.now.entries) (told journal.now.head journal.now.entries)) }
     {
         let mut walk = Walk::new(alloc, journal)?;
         let mut outline = Outline::new(alloc)?;

@@ -36,7 +36,7 @@ fn last_steps(entries: &ShortEntries) -> [Option<u32>; PID_NUMBERS]
 }
 
 /// Whether one of these is told to the process.
-pub fn any_told_to(pid: u8, told: &[Told]) -> bool
+pub(crate) fn any_told_to(pid: u8, told: &[Told]) -> bool
     ensures { result ≡ list_any (is_told_to pid) told.now }
 {
     told.iter().any(|told| told.event.pid.0 == pid)

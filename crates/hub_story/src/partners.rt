@@ -6,9 +6,9 @@ ghost use Rattle.hub_story.specs.declared.told.Told.{Told as Event};
 ghost use Rattle.hub_story.specs.PortMoves.{AreMoves};
 ghost use Rattle.hub_story.specs.Partners.{AreIn, is_made, paired, places_of, ports_made, ways, with_way};
 
-use crate::{PortMove, PortMoves, Story, Told};
+use crate::{PortMove, PortMoves, Told};
 use hub_base::{MOST_PORTS, Port, What};
-use hub_core::{ShortEntries, ShortJournal};
+use hub_core::ShortEntries;
 use std::alloc::{AllocError, Global};
 
 /// Whether the event tells that a port was made.
@@ -16,17 +16,6 @@ pub(crate) fn is_made(told: &Told) -> bool
     ensures { result ≡ is_made told.now.event.what }
 {
     matches!(told.event.what, What::Made(_))
-}
-
-/// How many ports are told to be made.
-fn ports_made(told: &[Told]) -> usize
-    ensures { result ≡ ports_made told.now }
-{
-    let mut made = 0;
-    for told in told {
-        made += usize::from(is_made(told));
-    }
-    made
 }
 
 /// Takes in that the value of one entry went to another, or came from it, where nothing is known of it yet.
@@ -78,19 +67,4 @@ pub fn partners_of(
         note_pairs(&mut table, &sent, &received);
     }
     Ok(table)
-}
-
-/// For each entry of a journal the other one of the passage in which it stands: to which the value of a send went, or from which that
-/// of a receive came.
-pub fn all_partners(
-    alloc: Global,
-    journal: &ShortJournal,
-    story: &Story,
-) -> Result<Vec<Option<u32>>, AllocError>
-    ensures { IfOk result (λ table.
-        AreIn (ways journal.now.entries story.now.told.items) (length journal.now.entries) table.items) }
-{
-    let entries = journal.entries();
-    let moves = PortMoves::of(alloc, entries, &story.told)?;
-    partners_of(alloc, entries, &moves, ports_made(&story.told))
 }

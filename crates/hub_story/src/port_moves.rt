@@ -1,4 +1,4 @@
-//! Which calls moved values, port by port: all of them in one pass over what is told, in 8 bytes each.
+//! Which calls moved values, port by port, in 8 bytes each.
 
 ghost use Rattle.std.specs.Prelude.{◌≡◌, ◌∷◌, ◌++◌, List, [], IfOk, OnOk, length};
 ghost use Rattle.hub_base.specs.Entry.{Entry};
@@ -58,17 +58,6 @@ impl PortMoves {
             Side::Send => self.sent.push(port, moved),
             Side::Recv => self.received.push(port, moved),
         }
-    }
-
-    /// All that are told of these entries.
-    pub fn of(alloc: Global, entries: &ShortEntries, told: &[Told]) -> Result<PortMoves, AllocError>
-        ensures { IfOk result (AreMoves entries.now told.now) }
-    {
-        let mut moves = PortMoves::new(alloc)?;
-        for told in told {
-            moves.note(entries, told)?;
-        }
-        Ok(moves)
     }
 
     /// How many values went into the port, and how many came out of it.

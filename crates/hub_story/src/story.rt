@@ -4,7 +4,7 @@ ghost use Rattle.std.specs.Prelude.{◌≡◌, ◌<◌, ◌-◌, ◌^◌, length
 ghost use Rattle.hub_base.specs.Head.{IsHead};
 ghost use Rattle.hub_story.specs.Stories.{IsStoryOf};
 
-use crate::ends::{ends_of, stalled_by, waiting_of};
+use crate::ends::{end_at, ends_of, stalled_by, waiting_of};
 use crate::exits::leavers_of;
 use crate::levels::level_of;
 use crate::outside::outside_of;
@@ -55,9 +55,9 @@ impl Story {
     pub fn end(&self, place: usize) -> Option<Told>
         ensures { result ≡ ended_at self.now place }
     {
-        match self.ends.get(place) {
-            Some(Some(told)) => self.told.get(*told as usize).copied(),
-            _ => None,
+        match end_at(&self.ends, place) {
+            Some(end) => self.told.get(end as usize).copied(),
+            None => None,
         }
     }
 

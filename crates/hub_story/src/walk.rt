@@ -5,6 +5,7 @@ ghost use Rattle.std.specs.List.{filter_map};
 ghost use Rattle.hub_base.specs.Head.{IsHead};
 ghost use Rattle.hub_story.specs.LastCalls.{tells_of};
 ghost use Rattle.hub_story.specs.Levels.{came_by};
+ghost use Rattle.hub_story.specs.Tellings.{IsTelling};
 ghost use Rattle.hub_story.specs.Told.{told};
 ghost use Rattle.hub_story.specs.Walks.{IsAt};
 
@@ -53,7 +54,9 @@ impl Walk {
     /// At the beginning of a journal of 1 to `MOST_PROCS` processes.
     pub fn new(alloc: Global, journal: &ShortJournal) -> Result<Walk, NoMemory>
         requires head { IsHead journal.now.head }
-        ensures { IfOk result (IsAt journal.now 0) }
+        ensures at { IfOk result (IsAt journal.now 0) }
+        ensures telling { IfOk result (λ _walk.
+            IsTelling (length journal.now.entries) (told journal.now.head journal.now.entries)) }
     {
         Ok(Walk {
             machine: Machine::new(alloc, journal.head())?,

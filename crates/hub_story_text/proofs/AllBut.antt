@@ -1,13 +1,8 @@
 -- Of a text, all but its end was written.
-use Rattle.std.proofs.Common.{◌≡◌, ◌∙◌, ℕ, List, [], ◌++◌, Option, Result, Ok, Err, OnErr, ap, append_assoc, refl, subst, sym}
+use Rattle.std.proofs.Common.{◌≡◌, ◌∙◌, ℕ, List, [], ◌++◌, Option, ap, append_assoc, refl, subst, sym}
 use Rattle.std.specs.Io.KnownBytes.{Appends}
 use Rattle.std.proofs.KnownBytes.{Appends-nil, Appends-trans}
-use Rattle.hub_replay.specs.Devices.{AppendsBeginning}
-use Rattle.hub_story_text.specs.AllBut.{AppendsAllBut}
-
-pub on-err : {A E P : Type 0} (r : Result A E) → P → OnErr r P
-on-err (Ok x) p = tt
-on-err (Err e) p = p
+use Rattle.hub_replay.specs.Devices.{AppendsAllBut, AppendsBeginning}
 
 -- nothing was
 pub none-yet : (old : Option (List ℕ)) (text : List ℕ) → AppendsAllBut old old text text

@@ -1,12 +1,11 @@
 -- What a step asks can be read in the line of a story: a line ends at its first newline, and a cell of it at its first two spaces.
-use Rattle.std.proofs.Common.{◌≡◌, ◌≢◌, ℕ, zero, suc, ◌+◌, ◌-◌, ◌*◌, ◌/◌, ◌%◌, ◌<◌, ◌==◌, Bool, true, false, cond, not, ◌&&◌, List, [], ◌∷◌, ◌++◌}
+use Rattle.std.proofs.Common.{◌≡◌, ◌≢◌, ℕ, zero, suc, ◌+◌, ◌-◌, ◌<◌, ◌==◌, Bool, true, false, cond, not, ◌&&◌, List, [], ◌∷◌, ◌++◌}
 use Rattle.std.proofs.Common.{codes, refl, ap, ◌∙◌, sym, subst, arith, Option, Some, None, drop, length, replicate, nat_lt, append_assoc, if◌then◌else◌}
 use Rattle.std.proofs.Math.Bool.{and_assoc}
 use Rattle.std.proofs.lemmas.Bool.{and_parts, cond_both, ltb-true}
 use Rattle.std.proofs.lemmas.Grind.{common_steps}
 use Rattle.std.specs.Prelude.{decimal, map}
 use Rattle.std.specs.Char.{is_ascii_digit}
-use Rattle.std.specs.Fmt.{digit_glyph, digits, digits_onto}
 use Rattle.std.specs.List.{flat_map, list_all}
 use Rattle.std.specs.Option.{option_map_or}
 use Rattle.std.specs.Result.{result_ok}
@@ -19,41 +18,20 @@ use Rattle.hub_base.specs.declared.value.Value.{Value}
 use Rattle.hub_base.specs.Content.{Content}
 use Rattle.hub_base.specs.Content.Content.{Num, Bytes}
 use Rattle.hub_base.specs.Entry.{Entry, Step}
-use Rattle.hub_base.specs.Head.{has_case, has_content, is_of}
 use Rattle.hub_base.specs.Lines.{call_fields, case_field, default_field, join_front, pieces, read_fields, step_fields}
 use Rattle.hub_base.specs.Reading.{Row, front, rows}
 use Rattle.hub_base.specs.Text.{Fits, body}
 use Rattle.hub_base.specs.Value.{content, field_of, value_field}
 use Rattle.hub_base.proofs.Again.{fields-again}
 use Rattle.hub_base.proofs.Bodies.{fields-lack, rows-line}
+use Rattle.hub_base.proofs.Decimals.{are_digits, decimal-digits}
+use Rattle.hub_base.proofs.Editions.{three-has}
 use Rattle.hub_base.proofs.Numerals.{all-lack, lacks, lacks-joined, not-true, pieces-joined, pieces-more, pieces-some}
 use Rattle.hub_base.proofs.ValueFields.{value-lacks}
 use Rattle.hub_base.proofs.Values.{every_value}
 use Rattle.hub_story_text.specs.Cells.{gap, spaces, with_cell}
 
 -- ---- numbers
--- digits, and one at least
-abbrev are_digits : List ℕ → Bool
-are_digits [] = false
-are_digits (c ∷ cs) = is_ascii_digit c && list_all is_ascii_digit cs
-
-glyph-digit : (n : ℕ) → is_ascii_digit (digit_glyph false (n % 10)) ≡ true
-glyph-digit n = let low : n % 10 < 10 = omega arith in grind (arith, common_steps)
-
-onto-digits : (k n : ℕ) (acc : List ℕ) → list_all is_ascii_digit acc ≡ true → 0 < k + length acc → are_digits (digits_onto k 10 false n acc) ≡ true
-onto-digits zero n [] h some = absurd (omega arith)
-onto-digits zero n (c ∷ cs) h some = h
-onto-digits (suc k) n acc h some =
-    let next = digit_glyph false (n % 10) ∷ acc in
-    let more : are_digits next ≡ true = rw (glyph-digit n) h in
-    cond_both (n / 10 == 0) next (digits_onto k 10 false (n / 10) next) (λ ds. are_digits ds ≡ true) (λ e. more)
-    (λ e. onto-digits k (n / 10) next more (omega arith))
-
--- a number is spelled by digits, however great it is
-decimal-digits : (n : ℕ) → are_digits (decimal n) ≡ true
-unfolding digits
-decimal-digits n = onto-digits (8 * 8) n [] refl (omega arith)
-
 digit-other : (m : ℕ) → m < 35 → (c : ℕ) → is_ascii_digit c ≡ true → not (c == m) ≡ true
 digit-other m low c h = grind (arith, common_steps)
 
@@ -256,19 +234,7 @@ fields-some ((c ∷ cs) ∷ fs) h = ap (λ l. (c ∷ cs) ∷ l) (fields-some fs 
 
 -- an entry that fits an edition fits the last one
 fits-last : (ed : Edition) (e : Entry) → Fits ed e → Fits Three e
-fits-last ed e fits = record { pid = fits.pid; step = fits.step; of_edition = of-last e.step } where
-  content-last : (c : Content) → has_content Three c ≡ true
-  content-last (Num n) = refl
-  content-last (Bytes bs) = refl
-
-  cases-last : (cs : List Case) → list_all (has_case Three) cs ≡ true
-  cases-last [] = refl
-  cases-last (Send p v ∷ cs) = rw (content-last (content v)) (cases-last cs)
-  cases-last (Recv p ∷ cs) = cases-last cs
-
-  of-last : (step : Step) → is_of Three step ≡ true
-  of-last (Call cases d w) = cases-last cases.items
-  of-last step = refl
+fits-last ed e fits = record { pid = fits.pid; step = fits.step; of_edition = three-has e.step }
 
 -- the line that has no more than what a step asks
 pub asks-told : (ed : Edition) (e : Entry) (k n : ℕ) → Fits ed e → Tells (replicate k 32 ++ decimal n ++ replicate 2 32 ++ 80 ∷ body e) e

@@ -1,27 +1,26 @@
 -- Of a call that waited, what is known of its end is what it was told by a later step; and which calls wait to the end.
 use Rattle.std.proofs.Common.{◌≡◌, ◌<◌, ◌+◌, ◌-◌, ◌==◌, ◌&&◌, not, ℕ, zero, suc, Bool, true, false, cond, List, [], ◌∷◌, ◌++◌}
-use Rattle.std.proofs.Common.{length, take, drop, filter, get_or}
-use Rattle.std.proofs.Common.{nat_lt, refl, ap, ◌∙◌, sym, subst, arith, Option, None, Some, is_some, add-one}
+use Rattle.std.proofs.Common.{length, take, drop, filter, get_or, zero-le}
+use Rattle.std.proofs.Common.{nat_lt, refl, ap, ◌∙◌, sym, subst, Option, None, Some, is_some, add-one}
 use Rattle.std.specs.List.{AllByRecursion, cons_option, fold}
 use Rattle.std.proofs.Math.Seq.{drop-cons}
 use Rattle.std.proofs.lemmas.Bool.{eqb-true, ltb-true}
 use Rattle.std.proofs.lemmas.List.Elements.{filter-append}
-use Rattle.hub_base.specs.declared.head.Head.{Head}
+use Rattle.std.proofs.lemmas.Option.{same_Some}
 use Rattle.hub_base.specs.declared.value.Pid.{Pid}
 use Rattle.hub_base.specs.Entry.{Entry}
 use Rattle.hub_base.proofs.Lists.{all_append}
+use Rattle.hub_base.proofs.Growing.{filter-agrees}
 use Rattle.hub_laws.specs.Replies.{is_parked}
 use Rattle.hub_story.specs.declared.told.Told.{Told}
 use Rattle.hub_story.specs.Levels.{came_by, told_by}
-use Rattle.hub_story.specs.Told.{end_of, told}
-use Rattle.hub_story.proofs.Ending.{filter-agrees}
-use Rattle.hub_story.proofs.InTime.{same-inside}
-use Rattle.hub_story.proofs.Late.{late-is, parked-own}
-use Rattle.hub_story.proofs.Walks.{came-more}
+use Rattle.hub_story.specs.Tellings.{IsTelling}
+use Rattle.hub_story.specs.Told.{end_of}
 use Rattle.hub_story_text.specs.declared.waits.TheConstants.{MOST_LONGEST}
 use Rattle.hub_story_text.specs.declared.waits.Wait.{Wait}
 use Rattle.hub_story.specs.ByClock.{is_by_clock}
 use Rattle.hub_story_text.specs.Seen.{unended, waits_still}
+use Rattle.hub_story_text.proofs.Levels.{not-below}
 use Rattle.hub_story_text.specs.Waits.{EndsLate, longest, told_wait, wait_of, waits, waits_below, with_wait}
 
 -- ---- lists of which all are such
@@ -51,32 +50,34 @@ all-folded P ranked (w ∷ ws) so all = all-folded P (with_wait w ranked) ws (al
 
 -- ---- waits
 -- one that is told is of a call that ended by a later step, or did not end
-wait-late : (h : Head) (es : List Entry) (clock : Option Pid) (place : ℕ) →
-    AllByRecursion (EndsLate (told h es)) (cons_option (told_wait clock es (told h es) place) [])
-wait-late h es clock place = by (is_by_clock clock es place) (end_of (told h es) place) refl
+wait-late : (es : List Entry) (all : List Told) → IsTelling (length es) all → (clock : Option Pid) (place : ℕ) →
+    AllByRecursion (EndsLate all) (cons_option (told_wait clock es all place) [])
+wait-late es all so clock place = by (is_by_clock clock es place) (end_of all place) refl
   where
-    by : (b : Bool) (o : Option Told) → end_of (told h es) place ≡ o →
-        AllByRecursion (EndsLate (told h es)) (cons_option (cond b None (wait_of (length es) place o)) [])
+    by : (b : Bool) (o : Option Told) → end_of all place ≡ o →
+        AllByRecursion (EndsLate all) (cons_option (cond b None (wait_of (length es) place o)) [])
     by true o is = tt
-    by false None is = (late-is h es place (λ t h. absurd (let g : None ≡ Some t = sym is ∙ h in cc)), tt)
+    by false None is = (so.late place (λ t h. absurd (let g : None ≡ Some t = sym is ∙ h in cc)), tt)
     by false (Some t) is = later (nat_lt place t.by) refl
       where
         later : (b : Bool) → nat_lt place t.by ≡ b →
-            AllByRecursion (EndsLate (told h es)) (cons_option (cond b (Some (record { place = place; steps = t.by - place })) None) [])
-        later true so =
-            (late-is h es place (λ u h. let same : t ≡ u = same-inside (sym is ∙ h) in subst (λ (v : Told). place < v.by) same (ltb-true place t.by so)), tt)
-        later false so = tt
+            AllByRecursion (EndsLate all) (cons_option (cond b (Some (record { place = place; steps = t.by - place })) None) [])
+        later true below =
+            (so.late place (λ u h. let same : t ≡ u = same_Some _ _ (sym is ∙ h) in subst (λ (v : Told). place < v.by) same (ltb-true place t.by below)), tt)
+        later false below = tt
 
-waits-late : (h : Head) (es : List Entry) (clock : Option Pid) (n : ℕ) → AllByRecursion (EndsLate (told h es)) (waits_below clock es (told h es) n)
-waits-late h es clock zero = tt
-waits-late h es clock (suc n) =
-    all_append (EndsLate (told h es)) (waits_below clock es (told h es) n) (cons_option (told_wait clock es (told h es) n) [])
-    (waits-late h es clock n) (wait-late h es clock n)
+waits-late : (es : List Entry) (all : List Told) → IsTelling (length es) all → (clock : Option Pid) (n : ℕ) →
+    AllByRecursion (EndsLate all) (waits_below clock es all n)
+waits-late es all so clock zero = tt
+waits-late es all so clock (suc n) =
+    all_append (EndsLate all) (waits_below clock es all n) (cons_option (told_wait clock es all n) [])
+    (waits-late es all so clock n) (wait-late es all so clock n)
 
-pub longest-late : (h : Head) (es : List Entry) (clock : Option Pid) → AllByRecursion (EndsLate (told h es)) (longest (waits clock es (told h es)))
-longest-late h es clock =
-    all-taken (EndsLate (told h es)) MOST_LONGEST (fold (λ ranked w. with_wait w ranked) [] (waits clock es (told h es)))
-    (all-folded (EndsLate (told h es)) [] (waits clock es (told h es)) tt (waits-late h es clock (length es)))
+pub longest-late : (es : List Entry) (all : List Told) → IsTelling (length es) all → (clock : Option Pid) →
+    AllByRecursion (EndsLate all) (longest (waits clock es all))
+longest-late es all so clock =
+    all-taken (EndsLate all) MOST_LONGEST (fold (λ ranked w. with_wait w ranked) [] (waits clock es all))
+    (all-folded (EndsLate all) [] (waits clock es all) tt (waits-late es all so clock (length es)))
 
 -- ---- who waits to the end
 -- what holds of all holds of those that pass
@@ -126,24 +127,22 @@ still-came all place came parks = by (end_of all place) refl
         filter-agrees (Parks place) (waits_still all) (λ t. false) (λ t p. one t (Some e) p is ∙ and-false (is_parked t.event.what)) came parks
         ∙ none-pass came
 
--- ---- one step more
-came-next : (h : Head) (es : List Entry) (place : ℕ) → place < length es →
-    told_by (place + 1) (told h es) ≡ told_by place (told h es) ++ came_by place (told h es)
-came-next h [] place below = absurd (omega (arith, below))
-came-next h (e ∷ es) place below = came-more h (e ∷ es) place e below
+-- ---- no step yet, and one step more
+pub none-first : (ts : List Told) → told_by 0 ts ≡ []
+none-first [] = refl
+none-first (t ∷ ts) = rw (not-below t.by 0 zero-le) (none-first ts)
 
-pub told-more : (h : Head) (es : List Entry) (place : ℕ) (came : List Told) → place < length es → came ≡ came_by place (told h es) →
-    told_by place (told h es) ++ came ≡ told_by (place + 1) (told h es)
-told-more h es place came below is = ap (λ l. told_by place (told h es) ++ l) is ∙ sym (came-next h es place below)
+pub told-more : {count place : ℕ} {all came : List Told} → IsTelling count all → place < count → came ≡ came_by place all →
+    told_by place all ++ came ≡ told_by (place + 1) all
+told-more {place = place} {all = all} so below is = ap (λ l. told_by place all ++ l) is ∙ sym (so.grown place below)
 
-pub still-more : (h : Head) (es : List Entry) (place : ℕ) (came old new : List Told) (end : Option Told) → place < length es →
-    came ≡ came_by place (told h es) → end ≡ end_of (told h es) place → old ≡ filter (waits_still (told h es)) (told_by place (told h es)) →
-    new ≡ old ++ unended end came → new ≡ filter (waits_still (told h es)) (told_by (place + 1) (told h es))
-still-more h es place came old new end below is ends was made =
-    let all : List Told = told h es in
+pub still-more : (count place : ℕ) (all came old new : List Told) (end : Option Told) → IsTelling count all → place < count →
+    came ≡ came_by place all → end ≡ end_of all place → old ≡ filter (waits_still all) (told_by place all) →
+    new ≡ old ++ unended end came → new ≡ filter (waits_still all) (told_by (place + 1) all)
+still-more count place all came old new end so below is ends was made =
     let parks : AllByRecursion (Parks place) came =
     subst (AllByRecursion (Parks place)) (sym is)
-    (all-filtered (λ t. is_parked t.event.what ≡ true → t.asked ≡ t.by) (λ t. t.by == place) all (parked-own h es)) in
+    (all-filtered (λ t. is_parked t.event.what ≡ true → t.asked ≡ t.by) (λ t. t.by == place) all so.parked) in
     made ∙ ap (λ l. l ++ unended end came) was
     ∙ ap (λ l. filter (waits_still all) (told_by place all) ++ l) (ap (λ o. unended o came) ends ∙ sym (still-came all place came parks))
-    ∙ sym (filter-append (waits_still all) (told_by place all) came) ∙ ap (filter (waits_still all)) (told-more h es place came below is)
+    ∙ sym (filter-append (waits_still all) (told_by place all) came) ∙ ap (filter (waits_still all)) (told-more so below is)

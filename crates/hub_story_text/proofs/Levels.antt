@@ -22,13 +22,21 @@ use Rattle.hub_story.specs.Stories.{IsFrom}
 use Rattle.hub_story_text.specs.declared.fullest.Fullest.{Fullest}
 use Rattle.hub_story_text.specs.Fullest.{IsUp, count_below, fuller, fuller_by, fullest, fullest_of, held_by, never_filled}
 use Rattle.hub_story_text.specs.StoryText.{came_by}
-use Rattle.hub_story_text.proofs.Groups.{none-before}
 
 pub not-below : (a b : ℕ) → b ≤ a → nat_lt a b ≡ false
 not-below a b h = grind arith
 
 past : (a b : ℕ) → nat_lt a b ≡ false → b ≤ a
 past a b h = grind arith
+
+-- ---- what is told before the step that all of it is from
+lower : (n m : ℕ) (ts : List Told) → n ≤ m → IsFrom m ts → IsFrom n ts
+lower n m [] below so = tt
+lower n m (t ∷ ts) below so = (omega (arith, below, so.0), so.1)
+
+none-before : (place : ℕ) (ts : List Told) → IsFrom place ts → told_by place ts ≡ []
+none-before place [] so = refl
+none-before place (t ∷ ts) so = rw (not-below t.by place so.0) (none-before place ts (lower place t.by ts so.0 so.1))
 
 -- ---- numbers that never go back
 pub none-below : (from limit : ℕ) (xs : List ℕ) → IsUp from xs → limit ≤ from → count_below limit xs ≡ 0

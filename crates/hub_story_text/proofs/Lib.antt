@@ -1,7 +1,6 @@
 pub mod Chains
 pub mod StepLines
 pub mod Closings
-pub mod Groups
 pub mod StepTexts
 pub mod Written
 pub mod Levels

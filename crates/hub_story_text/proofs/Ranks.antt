@@ -7,7 +7,7 @@ use Rattle.std.specs.List.{cons_option, fold}
 use Rattle.std.specs.Option.{option_map_or}
 use Rattle.std.proofs.Math.Seq.{drop-cons}
 use Rattle.std.proofs.lemmas.Bool.{lt-ltb}
-use Rattle.std.proofs.lemmas.List.{drop_all}
+use Rattle.std.proofs.lemmas.List.{drop_all, take_more}
 use Rattle.std.proofs.lemmas.List.Sums.{count_by_more_no, count_by_more_yes, fold-append}
 use Rattle.std.proofs.lemmas.Option.{get_or_from_slice_get, slice_get_cases}
 use Rattle.hub_base.specs.declared.value.Pid.{Pid}
@@ -18,7 +18,6 @@ use Rattle.hub_story_text.specs.declared.waits.Wait.{Wait}
 use Rattle.hub_story_text.specs.declared.waits.Waits.{Waits}
 use Rattle.hub_story_text.specs.Waits.{AreWaits, longest, told_wait, waits_below, with_wait}
 use Rattle.hub_story_text.proofs.Levels.{not-below}
-use Rattle.hub_story_text.proofs.StepLines.{taken-next}
 
 -- ---- where a wait comes
 pub rank-next : (xs : List Wait) (i : ℕ) (d w : Wait) → i < length xs → w.steps ≤ (get_or xs i d).steps →
@@ -28,7 +27,7 @@ rank-next xs i d w below behind so =
     so ∙ ap (λ l. take i xs ++ with_wait w l) (drop-cons xs i d below)
     ∙ ap (λ b. take i xs ++ cond b (w ∷ x ∷ drop (suc i) xs) (x ∷ with_wait w (drop (suc i) xs))) (not-below x.steps w.steps behind)
     ∙ sym (append_assoc (take i xs) (x ∷ []) (with_wait w (drop (suc i) xs)))
-    ∙ ap (λ l. l ++ with_wait w (drop (suc i) xs)) (sym (taken-next xs i d below))
+    ∙ ap (λ l. l ++ with_wait w (drop (suc i) xs)) (sym (take_more xs i d below))
     ∙ ap (λ k. take (i + 1) xs ++ with_wait w (drop k xs)) (sym (add-one i))
 
 pub rank-here : (xs : List Wait) (i : ℕ) (d w : Wait) → i < length xs → (get_or xs i d).steps < w.steps →

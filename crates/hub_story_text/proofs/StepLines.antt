@@ -1,14 +1,16 @@
 -- What is written of a step: its own line, and what it did to others.
 use Rattle.std.proofs.Common.{◌≡◌, ◌<◌, ◌+◌, ℕ, Bool, true, false, cond, List, [], ◌∷◌, ◌++◌}
-use Rattle.std.proofs.Common.{length, take, filter, refl, ap, ◌∙◌, sym, append-nil, get_or, add-one}
+use Rattle.std.proofs.Common.{length, take, filter, refl, ap, ◌∙◌, sym, append-nil, get_or}
 use Rattle.std.proofs.Common.{◌≢◌, ◌-◌, drop, length-append, arith}
 use Rattle.std.specs.List.{flat_map}
-use Rattle.std.proofs.Math.Seq.{take-suc, take-append_seam}
+use Rattle.std.proofs.Math.Seq.{take-append_seam}
 use Rattle.std.proofs.lemmas.Grind.{flat_map-append}
+use Rattle.std.proofs.lemmas.List.Elements.{filter_more}
 use Rattle.hub_base.specs.declared.event.What.{What}
 use Rattle.hub_base.specs.declared.event.What.TheVariants.{Made, Fired, Default, Done, Parked, Stalled, Fault, Cancelled}
 use Rattle.hub_base.specs.declared.value.Port.{Port}
 use Rattle.hub_base.specs.Entry.{Entry}
+use Rattle.hub_base.proofs.Growing.{flat-next}
 use Rattle.hub_story.specs.declared.told.Told.{Told}
 use Rattle.hub_story.specs.Partners.{is_made}
 use Rattle.hub_story_text.specs.declared.ends.Ending.{Ending}
@@ -17,8 +19,6 @@ use Rattle.hub_story.specs.declared.last_moves.AtPort.{AtPort}
 use Rattle.hub_story_text.specs.EndsText.{ending_word, ends_words, step_number, with_ended}
 use Rattle.hub_story_text.specs.PortText.{made_line, port_line}
 use Rattle.hub_story_text.specs.WaiterText.{left_words, waiter_words, waiters_words}
-use Rattle.hub_story.proofs.Filters.{filter-take}
-use Rattle.hub_story_text.proofs.Chains.{flat-next}
 
 -- one more that was ended
 step-more : (word : List ℕ) (ts : List Told) (t : Told) → word ++ (flat_map step_number ts ++ step_number t) ≡ word ++ flat_map step_number (ts ++ t ∷ [])
@@ -34,15 +34,11 @@ ended-more TimesOut (x ∷ xs) t = step-more (ending_word TimesOut) (x ∷ xs) t
 ended-more Wakes (x ∷ xs) t = step-more (ending_word Wakes) (x ∷ xs) t
 ended-more Stalls (x ∷ xs) t = step-more (ending_word Stalls) (x ∷ xs) t
 
--- one item more
-pub taken-next : {X : Type 0} (xs : List X) (i : ℕ) (d : X) → i < length xs → take (i + 1) xs ≡ take i xs ++ get_or xs i d ∷ []
-taken-next xs i d below = rw add-one (take-suc xs i d below)
-
 pub ends-one : (ending : Ending) (p : Told → Bool) (xs : List Told) (i : ℕ) (d : Told) (was now : List ℕ) → i < length xs → p (get_or xs i d) ≡ true →
     was ≡ ends_words ending (filter p (take i xs)) → now ≡ with_ended ending was (get_or xs i d) → now ≡ ends_words ending (filter p (take (i + 1) xs))
 ends-one ending p xs i d was now below hit so is =
     is ∙ ap (λ bs. with_ended ending bs (get_or xs i d)) so ∙ ended-more ending (filter p (take i xs)) (get_or xs i d)
-    ∙ ap (λ ts. ends_words ending (filter p (take i xs) ++ ts)) (sym (one p (get_or xs i d) hit)) ∙ ap (ends_words ending) (sym (filter-take p xs i d below))
+    ∙ ap (λ ts. ends_words ending (filter p (take i xs) ++ ts)) (sym (one p (get_or xs i d) hit)) ∙ ap (ends_words ending) (sym (filter_more p xs i d below))
   where
     one : (p : Told → Bool) (t : Told) → p t ≡ true → filter p (t ∷ []) ≡ t ∷ []
     one p t h = rw h refl
@@ -51,7 +47,7 @@ pub ends-none : (ending : Ending) (p : Told → Bool) (xs : List Told) (i : ℕ)
     was ≡ ends_words ending (filter p (take i xs)) → was ≡ ends_words ending (filter p (take (i + 1) xs))
 ends-none ending p xs i d was below miss so =
     so ∙ ap (ends_words ending) (sym (append-nil (filter p (take i xs))) ∙ ap (λ ts. filter p (take i xs) ++ ts) (sym (none p (get_or xs i d) miss))
-    ∙ sym (filter-take p xs i d below))
+    ∙ sym (filter_more p xs i d below))
   where
     none : (p : Told → Bool) (t : Told) → p t ≡ false → filter p (t ∷ []) ≡ []
     none p t h = rw h refl

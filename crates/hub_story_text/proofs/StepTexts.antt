@@ -13,7 +13,7 @@ use Rattle.hub_base.specs.Entry.{Entry}
 use Rattle.hub_story.specs.declared.told.Told.{Told}
 use Rattle.hub_story.specs.Leavers.{leavers}
 use Rattle.hub_story.specs.Levels.{told_by}
-use Rattle.hub_story.specs.Waiting.{is_stalled}
+use Rattle.hub_story.specs.Waiting.{is_stalled, stalled_by}
 use Rattle.hub_base.specs.Values.{cases_at}
 use Rattle.hub_story.specs.declared.last_moves.AtPort.{AtPort}
 use Rattle.hub_story.specs.declared.last_moves.LastMoves.{LastMoves}
@@ -25,7 +25,6 @@ use Rattle.hub_story_text.specs.declared.paint.Paint.{Paint}
 use Rattle.hub_story_text.specs.Paint.{painted_line}
 use Rattle.hub_story_text.specs.WaiterText.{case_words, gone_words, left_words, port_words, waiter_words, waiters_words, who_words}
 use Rattle.hub_story.specs.Windows.{has}
-use Rattle.hub_story_text.proofs.Groups.{stalled-came}
 
 -- ---- the same movers give the same words
 same-case : (k k' : Port → AtPort) → ((p : Port) → k p ≡ k' p) → (c : Case) → case_words k c ≡ case_words k' c
@@ -110,5 +109,4 @@ step-is paint clock es all place e came moves same last =
     ++ waiters_words [] stall_heading es (known_at moves) moves.receivers.left.items
     (to_others clock (filter (λ t. is_stalled t.event.what) l))) same
     ∙ ap (λ l. painted_line paint clock es all place e (came_by place all) ++ l)
-    (waiters-told [] stall_heading clock es (told_by (place + 1) all) moves last (filter (λ t. is_stalled t.event.what) (came_by place all))
-    ∙ ap (who_waits [] stall_heading clock es (told_by (place + 1) all)) (stalled-came place all))
+    (waiters-told [] stall_heading clock es (told_by (place + 1) all) moves last (stalled_by all place))

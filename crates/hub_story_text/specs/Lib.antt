@@ -1,6 +1,7 @@
 pub mod Cells
 pub mod Writing
 pub mod AnswerText
+pub mod Known
 pub mod Explained
 pub mod EndsText
 pub mod LineText
@@ -13,5 +14,4 @@ pub mod PortText
 pub mod Waits
 pub mod StoryText
 pub mod OneStory
-pub mod AllBut
 pub mod Seen

@@ -1,6 +1,6 @@
 //! What a step did to calls that waited.
 
-ghost use Rattle.std.specs.Prelude.{◌≡◌, ◌++◌, [], true, filter, OnOk};
+ghost use Rattle.std.specs.Prelude.{◌≡◌, ◌++◌, true, filter, OnOk};
 ghost use Rattle.std.specs.Bool.{OnTrue};
 ghost use Rattle.std.specs.List.{AllByRecursion};
 ghost use Rattle.hub_story_text.specs.EndsText.{ending_word, ends_other, ends_so, ends_words, is_own_or_fired, with_all_ends, with_ended, with_ends};
@@ -100,24 +100,6 @@ fn put_ends(
     Ok(())
 }
 
-/// Whether no other step so ended by the step at this place.
-fn ends_none(
-    clock: Option<Pid>,
-    entries: &ShortEntries,
-    ending: Ending,
-    place: u32,
-    came: &[Told],
-) -> bool
-    ensures { OnTrue result (filter (ends_other clock entries.now ending place) came.now ≡ []) }
-{
-    for told in came {
-        if ends_other(clock, entries, ending, place, told) {
-            return false;
-        }
-    }
-    true
-}
-
 /// Which other steps so ended by the step at this place, in the last column.
 fn ends_cell(
     out: &mut Vec<u8>,
@@ -131,9 +113,6 @@ fn ends_cell(
     ensures { OnOk result (
         LineBecomes start out.old.items out.new.items (λ line. with_ends clock entries.now ending place came.now line)) }
 {
-    if ends_none(clock, entries, ending, place, came) {
-        return Ok(());
-    }
     let cell = open_cell(out, start, ENDS)?;
     put_ends(out, clock, entries, ending, place, came)?;
     close_cell(out, cell);

@@ -1,33 +1,32 @@
-//! A journal with what is known of its entries: how each ended, and to which other one its value went, or from which it came.
+//! A journal with what is known of it.
 
-ghost use Rattle.std.specs.Prelude.{◌≡◌, ◌<◌, ◌++◌, length, slice_get, OnOk, Some};
+ghost use Rattle.std.specs.Prelude.{◌≡◌, ◌<◌, ◌-◌, ◌^◌, ◌++◌, codes, length, slice_get, OnOk, Some};
 ghost use Rattle.hub_story.specs.Levels.{came_by};
 ghost use Rattle.hub_story.specs.Partners.{partner_of};
 ghost use Rattle.hub_story.specs.Told.{end_of};
 ghost use Rattle.hub_story.specs.ByClock.{is_clock};
-ghost use Rattle.hub_story_text.specs.Explained.{IsExplained, entries_of, told_of};
-ghost use Rattle.hub_story_text.specs.LineText.{told_cells, told_line};
-ghost use Rattle.hub_story_text.specs.Paint.{coloured_line, painted_line, shown_colour};
+ghost use Rattle.hub_story_text.specs.Explained.{IsExplained, IsLine, cells_of, entries_of, told_of};
+ghost use Rattle.hub_story_text.specs.Known.{IsKnown};
+ghost use Rattle.hub_story_text.specs.Paint.{painted_line, shown_colour};
 
-use crate::lines::put_cells;
+use crate::known::Known;
+use crate::lines::{Line, put_cells};
 use crate::paint::{Colour, NO_COLOUR, Paint, colour_of};
-use hub_base::{EntryRef, NoMemory, Pid};
+use hub_base::{NoMemory, Pid};
 use hub_core::ShortJournal;
-use hub_story::{LateEnds, Told, is_clock};
+use hub_story::{Told, clock_in, is_clock};
 
-/// A journal, its clock, how its calls ended that waited, and for each entry the other one of the passage in which it stands.
+/// A journal, its clock, and what else is known of it.
 #[derive(Clone, Copy)]
-pub(crate) struct Explained<'a> {
+pub struct Explained<'a> {
     /// The journal.
-    pub(crate) journal: &'a ShortJournal,
+    pub journal: &'a ShortJournal,
     /// Its clock, if it has one.
-    pub(crate) clock: Option<Pid>,
-    /// How calls ended by later steps than their own.
-    pub(crate) ends: &'a LateEnds,
-    /// The other entries.
-    pub(crate) partners: &'a [Option<u32>],
+    pub clock: Option<Pid>,
+    /// What else is known of it.
+    pub known: &'a Known,
     /// How the lines of steps are shown.
-    pub(crate) paint: Paint,
+    pub paint: Paint,
 }
 
 /// What stands at this place.
@@ -39,96 +38,70 @@ fn item_at<T: Copy>(items: &[T], place: usize) -> T
 }
 
 impl<'a> Explained<'a> {
+    /// The journal of which this is known, whose lines are shown so.
+    pub fn new(journal: &'a ShortJournal, known: &'a Known, paint: Paint) -> Explained<'a>
+        requires few { length journal.now.entries < 2 ^ 32 - 1 }
+        requires known { IsKnown journal.now known.now }
+        ensures explained { IsExplained result }
+        ensures journal { result.journal.now ≡ journal.now }
+        ensures paint { result.paint ≡ paint }
+    {
+        Explained {
+            journal,
+            clock: clock_in(journal),
+            known,
+            paint,
+        }
+    }
+
     /// How the entry at this place ended, by whose step these came; nothing while it waits.
-    pub(crate) fn end(&self, place: usize, came: &[Told]) -> Option<Told>
+    pub fn end(&self, place: usize, came: &[Told]) -> Option<Told>
         requires explained { IsExplained self.now }
         requires within { place < length (entries_of self.now) }
         requires came { came.now ≡ came_by place (told_of self.now) }
         ensures { result ≡ end_of (told_of self.now) place }
     {
-        self.ends.end(place, came)
+        self.known.ends.end(place, came)
     }
 
     /// The other entry of the passage in which it stands.
-    fn partner(&self, place: usize) -> Option<u32>
+    pub fn partner(&self, place: usize) -> Option<u32>
         requires explained { IsExplained self.now }
         requires within { place < length (entries_of self.now) }
         ensures { result ≡ partner_of (entries_of self.now) (told_of self.now) place }
     {
-        item_at(self.partners, place)
+        item_at(&self.known.partners, place)
     }
 }
 
-/// Appends the cells of the entry's line at this place, and in them what came by its step.
-fn put_told_cells(
-    out: &mut Vec<u8>,
-    explained: &Explained,
-    place: u32,
-    entry: &EntryRef<'_>,
-    end: Option<Told>,
-    came: &[Told],
-) -> Result<(), NoMemory>
+/// Appends a line, without the newline.
+fn put_told_cells(out: &mut Vec<u8>, explained: &Explained, line: &Line<'_>) -> Result<(), NoMemory>
     requires explained { IsExplained explained.now }
-    requires within { place < length (entries_of explained.now) }
-    requires end { end ≡ end_of (told_of explained.now) place }
-    ensures { OnOk result (out.new.items ≡
-        out.old.items
-        ++ told_cells explained.now.clock (entries_of explained.now) (told_of explained.now) place entry.now came.now) }
+    requires line { IsLine explained.now line.now }
+    ensures { OnOk result (out.new.items ≡ out.old.items ++ cells_of explained.now line.now) }
 {
-    let partner = explained.partner(place as usize);
+    let partner = explained.partner(line.place as usize);
     put_cells(
         out,
         explained.clock,
         explained.journal.entries(),
-        place,
-        entry,
         partner,
-        end,
-        came,
+        line,
     )
 }
 
-/// Appends the line of the entry at this place, and in it what came by its step.
-pub(crate) fn put_told_line(
+/// Appends a line.
+pub(crate) fn put_line(
     out: &mut Vec<u8>,
     explained: &Explained,
-    place: u32,
-    entry: &EntryRef<'_>,
-    end: Option<Told>,
-    came: &[Told],
+    line: &Line<'_>,
 ) -> Result<(), NoMemory>
     requires explained { IsExplained explained.now }
-    requires within { place < length (entries_of explained.now) }
-    requires end { end ≡ end_of (told_of explained.now) place }
-    ensures { OnOk result (out.new.items ≡
-        out.old.items
-        ++ told_line explained.now.clock (entries_of explained.now) (told_of explained.now) place entry.now came.now) }
+    requires line { IsLine explained.now line.now }
+    ensures { OnOk result (out.new.items ≡ out.old.items ++ (cells_of explained.now line.now ++ codes "\n")) }
 {
-    put_told_cells(out, explained, place, entry, end, came)?;
+    put_told_cells(out, explained, line)?;
     out.extend_from_slice(b"\n")?;
-    Ok(())
-}
-
-/// Appends that line in a colour.
-fn put_coloured_line(
-    out: &mut Vec<u8>,
-    colour: Colour,
-    explained: &Explained,
-    place: u32,
-    entry: &EntryRef<'_>,
-    end: Option<Told>,
-    came: &[Told],
-) -> Result<(), NoMemory>
-    requires explained { IsExplained explained.now }
-    requires within { place < length (entries_of explained.now) }
-    requires end { end ≡ end_of (told_of explained.now) place }
-    ensures { OnOk result (out.new.items ≡ out.old.items
-        ++ coloured_line (Some colour)
-        (told_cells explained.now.clock (entries_of explained.now) (told_of explained.now) place entry.now came.now)) }
-{
-    out.extend_from_slice(colour.text())?;
-    put_told_cells(out, explained, place, entry, end, came)?;
-    out.extend_from_slice(NO_COLOUR)?;
     Ok(())
 }
 
@@ -142,24 +115,23 @@ fn shown_colour(explained: &Explained, pid: Pid, end: Option<Told>) -> Option<Co
     }
 }
 
-/// Appends the line of the entry at this place as it is shown, and in it what came by its step.
+/// Appends a line as it is shown.
 pub(crate) fn put_painted_line(
     out: &mut Vec<u8>,
     explained: &Explained,
-    place: u32,
-    entry: &EntryRef<'_>,
-    end: Option<Told>,
-    came: &[Told],
+    line: &Line<'_>,
 ) -> Result<(), NoMemory>
     requires explained { IsExplained explained.now }
-    requires within { place < length (entries_of explained.now) }
-    requires end { end ≡ end_of (told_of explained.now) place }
+    requires line { IsLine explained.now line.now }
     ensures { OnOk result (out.new.items ≡ out.old.items
         ++ painted_line explained.now.paint explained.now.clock (entries_of explained.now) (told_of explained.now)
-        place entry.now came.now) }
+        line.now.place line.now.entry.now line.now.came.now) }
 {
-    match shown_colour(explained, entry.pid, end) {
-        Some(colour) => put_coloured_line(out, colour, explained, place, entry, end, came),
-        None => put_told_line(out, explained, place, entry, end, came),
-    }
+    let Some(colour) = shown_colour(explained, line.entry.pid, line.end) else {
+        return put_line(out, explained, line);
+    };
+    out.extend_from_slice(colour.text())?;
+    put_told_cells(out, explained, line)?;
+    out.extend_from_slice(NO_COLOUR)?;
+    Ok(())
 }

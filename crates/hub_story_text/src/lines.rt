@@ -1,13 +1,13 @@
 //! The line of a step.
 
 ghost use Rattle.std.specs.Prelude.{◌≡◌, ◌<◌, ◌+◌, ◌-◌, ◌++◌, codes, decimal, OnOk};
-ghost use Rattle.hub_story_text.specs.AnswerText.{answer_words, ended_words};
+ghost use Rattle.hub_story_text.specs.AnswerText.{ended_words};
 ghost use Rattle.hub_story_text.specs.Cells.{with_cell};
 ghost use Rattle.hub_story_text.specs.Writing.{LineBecomes};
 ghost use Rattle.hub_story_text.specs.LineText.{asks, cells, got_words, moved_words, sent_words};
 ghost use Rattle.hub_story_text.specs.LineText.{step_words, value_words, waited_words, with_clock, with_end};
 
-use crate::answers::{fault_words, put_answer, put_ended};
+use crate::answers::{fault_words, put_ended};
 use crate::cells::{ANSWER, ASKS, VALUE, WAITED, close_cell, open_cell, put_right};
 use crate::ends::ends_cells;
 use crate::numbers::{number_of, put_number};
@@ -16,6 +16,19 @@ use hub_core::ShortEntries;
 use hub_story::{Part, Told, is_clock, part_of};
 use hub_text::write_entry;
 use std::alloc::AllocError;
+
+/// What the line of an entry is written from.
+#[derive(Clone, Copy)]
+pub(crate) struct Line<'a> {
+    /// The place of the entry.
+    pub(crate) place: u32,
+    /// The entry.
+    pub(crate) entry: &'a EntryRef<'a>,
+    /// How it ended; nothing while it waits.
+    pub(crate) end: Option<Told>,
+    /// What came by its step.
+    pub(crate) came: &'a [Told],
+}
 
 /// Appends who asks what.
 fn put_asks(out: &mut Vec<u8>, entry: &EntryRef<'_>) -> Result<(), NoMemory>
@@ -134,17 +147,6 @@ fn asks_cell(out: &mut Vec<u8>, start: usize, entry: &EntryRef<'_>) -> Result<()
     Ok(())
 }
 
-/// What a step of these cases was told.
-fn answer_cell(out: &mut Vec<u8>, start: usize, cases: &[Case], what: What) -> Result<(), NoMemory>
-    ensures { OnOk result (
-        LineBecomes start out.old.items out.new.items (λ line. with_cell ANSWER line (answer_words cases.now what))) }
-{
-    let cell = open_cell(out, start, ANSWER)?;
-    put_answer(out, cases, what)?;
-    close_cell(out, cell);
-    Ok(())
-}
-
 /// What a step of these cases was told that has ended.
 fn ended_cell(
     out: &mut Vec<u8>,
@@ -229,7 +231,7 @@ fn put_waits(out: &mut Vec<u8>, start: usize, place: u32, count: usize) -> Resul
     ensures { OnOk result (LineBecomes start out.old.items out.new.items
         (λ line. with_cell WAITED (with_cell ANSWER line (codes "waits")) (decimal (count - (place + 1)) ++ codes ", still"))) }
 {
-    answer_cell(out, start, &[], What::Parked)?;
+    ended_cell(out, start, Part::NoPart, &[], What::Parked)?;
     still_cell(out, start, place, count)?;
     Ok(())
 }
@@ -240,44 +242,39 @@ fn put_end(
     start: usize,
     clock: Option<Pid>,
     entries: &ShortEntries,
-    place: u32,
-    entry: &EntryRef<'_>,
     partner: Option<u32>,
-    end: Option<Told>,
+    line: &Line<'_>,
 ) -> Result<(), NoMemory>
     ensures { OnOk result (LineBecomes start out.old.items out.new.items
-        (λ line. with_end clock entries.now place entry.now partner line end)) }
+        (λ before. with_end clock entries.now line.now.place line.now.entry.now partner before line.now.end)) }
 {
-    let Some(end) = end else {
-        return put_waits(out, start, place, entries.len());
+    let Some(end) = line.end else {
+        return put_waits(out, start, line.place, entries.len());
     };
-    let cases = entry.step.cases();
+    let cases = line.entry.step.cases();
     let part = part_of(clock, entries, &end);
     ended_cell(out, start, part, cases, end.event.what)?;
-    waited_cell(out, start, place, &end)?;
+    waited_cell(out, start, line.place, &end)?;
     value_cell(out, start, entries, cases, partner, end.event.what)?;
     Ok(())
 }
 
-/// Appends the line of the entry at this place, without the newline.
+/// Appends the line, without the newline.
 pub(crate) fn put_cells(
     out: &mut Vec<u8>,
     clock: Option<Pid>,
     entries: &ShortEntries,
-    place: u32,
-    entry: &EntryRef<'_>,
     partner: Option<u32>,
-    end: Option<Told>,
-    came: &[Told],
+    line: &Line<'_>,
 ) -> Result<(), NoMemory>
     ensures { OnOk result (out.new.items ≡ out.old.items
-        ++ cells clock entries.now place entry.now end partner came.now) }
+        ++ cells clock entries.now line.now.place line.now.entry.now line.now.end partner line.now.came.now) }
 {
     let start = out.len();
-    put_right(out, number_of(place))?;
-    asks_cell(out, start, entry)?;
-    put_end(out, start, clock, entries, place, entry, partner, end)?;
-    clock_cell(out, start, clock, entry)?;
-    ends_cells(out, start, clock, entries, place, came)?;
+    put_right(out, number_of(line.place))?;
+    asks_cell(out, start, line.entry)?;
+    put_end(out, start, clock, entries, partner, line)?;
+    clock_cell(out, start, clock, line.entry)?;
+    ends_cells(out, start, clock, entries, line.place, line.came)?;
     Ok(())
 }

@@ -1,10 +1,11 @@
 //! What each port that was made carried, and by whom it was made, opened again and closed.
 
-ghost use Rattle.std.specs.Prelude.{◌≡◌, ◌++◌, filter, slice_get, OnOk, []};
+ghost use Rattle.std.specs.Prelude.{◌≡◌, ◌++◌, filter, length, slice_get, OnOk, []};
 ghost use Rattle.std.specs.Option.{option_map_or};
 ghost use Rattle.hub_story.specs.Lives.{is_turn};
 ghost use Rattle.hub_story.specs.Partners.{is_made};
 ghost use Rattle.hub_story.specs.PortMoves.{AreMoves};
+ghost use Rattle.hub_story.specs.Tellings.{IsTelling};
 ghost use Rattle.hub_story.specs.Told.{told};
 ghost use Rattle.hub_story_text.specs.PortText.{by_words, cap_words, counts_words, most_words, opened_at, port_line, turn_words};
 ghost use Rattle.hub_story_text.specs.StoryText.{ports_text};
@@ -94,6 +95,7 @@ fn put_port(
     made: &Told,
     port: Port,
 ) -> Result<(), AllocError>
+    requires telling { IsTelling (length journal.now.entries) (told journal.now.head journal.now.entries) }
     requires moves { AreMoves journal.now.entries (told journal.now.head journal.now.entries) moves.now }
     requires turns { turns.now ≡ filter (is_turn journal.now.entries) (told journal.now.head journal.now.entries) }
     ensures { OnOk result (out.new.items ≡
@@ -119,6 +121,7 @@ pub(crate) fn put_ports(
     made: &[Told],
     turns: &[Told],
 ) -> Result<(), AllocError>
+    requires telling { IsTelling (length journal.now.entries) (told journal.now.head journal.now.entries) }
     requires moves { AreMoves journal.now.entries (told journal.now.head journal.now.entries) moves.now }
     requires made { made.now ≡ filter (λ t. is_made t.event.what) (told journal.now.head journal.now.entries) }
     requires turns { turns.now ≡ filter (is_turn journal.now.entries) (told journal.now.head journal.now.entries) }

@@ -1,53 +1,31 @@
 //! The lines of the steps.
 
-ghost use Rattle.std.specs.Prelude.{◌≡◌, ◌≤◌, ◌<◌, ◌+◌, ◌++◌, [], Some, drop, filter, length, slice_get, take, IfErr, IfOk, OnErr, OnOk};
-ghost use Rattle.hub_replay.specs.Devices.{AppendsBeginning, Failed};
+ghost use Rattle.std.specs.Prelude.{◌≡◌, ◌≤◌, ◌<◌, ◌+◌, ◌++◌, [], Some, filter, length, slice_get, IfErr, IfOk, OnErr, OnOk};
+ghost use Rattle.hub_replay.specs.Devices.{AppendsAllBut, AppendsBeginning};
 ghost use Rattle.hub_replay.specs.ViewFaults.{Fails};
 ghost use Rattle.hub_story.specs.ByClock.{to_others};
 ghost use Rattle.hub_story.specs.LastMoves.{AreLast, known_at};
 ghost use Rattle.hub_story.specs.Levels.{told_by};
-ghost use Rattle.hub_story.specs.Stories.{IsFrom};
-ghost use Rattle.hub_story.specs.Told.{end_of};
 ghost use Rattle.hub_story.specs.Waiting.{is_stalled};
 ghost use Rattle.hub_story.specs.Walks.{IsAt};
-ghost use Rattle.hub_story_text.specs.AllBut.{AppendsAllBut};
-ghost use Rattle.hub_story_text.specs.Explained.{IsExplained, entries_of, told_of};
+ghost use Rattle.hub_story_text.specs.Explained.{IsExplained, IsLine, entries_of, lines_from, told_of};
 ghost use Rattle.hub_story_text.specs.Seen.{IsSeen};
-ghost use Rattle.hub_story_text.specs.StoryText.{came_by, stall_heading, steps_from};
+ghost use Rattle.hub_story_text.specs.StoryText.{came_by, stall_heading};
 ghost use Rattle.hub_story_text.specs.WaiterText.{waiters_words};
 
 use crate::Window;
 use crate::explained::{Explained, put_painted_line};
+use crate::lines::Line;
 use crate::seen::Seen;
 use crate::waiters::put_waiters;
-use hub_base::{EntryRef, NoMemory};
+use hub_base::NoMemory;
 use hub_core::CaseRoom;
-use hub_replay::{Sink, ViewFault, WriteFailed, write_whole};
+use hub_replay::{Sink, ViewFault, write_many};
 use hub_story::{LastMoves, Told, Walk, to_others};
 use std::alloc::{AllocError, Global};
 
-/// So many bytes of lines are written at once.
-const MANY: usize = 65_536;
-
 /// What stands above those whom a step stalled.
 const STALL_HEADING: &[u8] = b"        stall: everyone who is left waits\n";
-
-/// How many of these events came by the step at this place; they stand first.
-pub fn count_of(told: &[Told], place: u32) -> usize
-    requires { IsFrom place told.now }
-    ensures within { result ≤ length told.now }
-    ensures came { take result told.now ≡ came_by place told.now }
-    ensures rest { IsFrom (place + 1) (drop result told.now) }
-{
-    let mut count = 0;
-    for told in told {
-        if told.by != place {
-            return count;
-        }
-        count += 1;
-    }
-    count
-}
 
 /// Those of these events that say that everyone waits.
 pub fn stalled_of(alloc: Global, came: &[Told]) -> Result<Vec<Told>, AllocError>
@@ -84,55 +62,33 @@ fn put_stalled(
     Ok(())
 }
 
-/// Appends the line of this entry, which stands at this place, ended so, and by whose step these came, and those whom it stalled, where the window has it.
+/// Appends the line of a step, and those whom it stalled, where the window has it.
 fn put_step(
     out: &mut Vec<u8>,
     moves: &LastMoves,
     explained: &Explained,
     window: Window,
-    place: usize,
-    entry: &EntryRef<'_>,
-    end: Option<Told>,
-    came: &[Told],
+    line: &Line<'_>,
 ) -> Result<(), NoMemory>
     requires explained { IsExplained explained.now }
-    requires within { place < length (entries_of explained.now) }
-    requires entry { slice_get (entries_of explained.now) place ≡ Some entry.now }
-    requires end { end ≡ end_of (told_of explained.now) place }
-    requires came { came.now ≡ came_by place (told_of explained.now) }
+    requires line { IsLine explained.now line.now }
+    requires entry { slice_get (entries_of explained.now) line.now.place ≡ Some line.now.entry.now }
+    requires came { line.now.came.now ≡ came_by line.now.place (told_of explained.now) }
     requires last { AreLast (entries_of explained.now)
-        (told_by (place + 1) (told_of explained.now)) moves.now }
+        (told_by (line.now.place + 1) (told_of explained.now)) moves.now }
     ensures { OnOk result (out.new.items
-        ++ steps_from explained.now.paint window explained.now.clock (entries_of explained.now) (told_of explained.now) (place + 1)
-        ≡ out.old.items
-        ++ steps_from explained.now.paint window explained.now.clock (entries_of explained.now) (told_of explained.now) place) }
+        ++ lines_from explained.now window (line.now.place + 1)
+        ≡ out.old.items ++ lines_from explained.now window line.now.place) }
 {
-    if !window.has(place as u32) {
+    if !window.has(line.place) {
         return Ok(());
     }
-    put_painted_line(out, explained, place as u32, entry, end, came)?;
-    put_stalled(out, explained, moves, came)
+    put_painted_line(out, explained, line)?;
+    put_stalled(out, explained, moves, line.came)
 }
 
-/// Writes lines where they are many, and lets them go.
-fn write_many<W: Sink>(output: &mut W, lines: &mut Vec<u8>) -> Result<(), WriteFailed>
-    ensures whole { OnOk result
-        (AppendsAllBut (W.contents output.old) (W.contents output.new) lines.old.items lines.new.items) }
-    ensures beginning { OnErr result
-        (AppendsBeginning (W.contents output.old) (W.contents output.new) lines.old.items) }
-    ensures err { OnErr result (Failed (W.failures output.old) (W.failures output.new)) }
-    ensures ok { OnOk result (W.failures output.new ≡ W.failures output.old) }
-{
-    if lines.len() < MANY {
-        return Ok(());
-    }
-    write_whole(output, lines)?;
-    lines.clear();
-    Ok(())
-}
-
-/// Writes `text`, and behind it the lines of the steps that the window has, below each those whom it stalled; the last of them are left
-/// in `text`. Walks along the journal, and takes in all of its steps.
+/// Writes `text`, and behind it the lines of the steps that the window has, below each those whom it stalled; the last of them
+/// are left in `text`. Walks along the journal, and takes in all of its steps.
 pub(crate) fn write_steps<W: Sink>(
     output: &mut W,
     text: &mut Vec<u8>,
@@ -145,10 +101,9 @@ pub(crate) fn write_steps<W: Sink>(
     requires at { IsAt explained.now.journal.now 0 walk.old }
     requires none { IsSeen explained.now 0 seen.old }
     ensures whole { OnOk result (AppendsAllBut (W.contents output.old) (W.contents output.new) (text.old.items
-        ++ steps_from explained.now.paint window explained.now.clock (entries_of explained.now) (told_of explained.now) 0)
-        text.new.items) }
+        ++ lines_from explained.now window 0) text.new.items) }
     ensures beginning { OnErr result (AppendsBeginning (W.contents output.old) (W.contents output.new) (text.old.items
-        ++ steps_from explained.now.paint window explained.now.clock (entries_of explained.now) (told_of explained.now) 0)) }
+        ++ lines_from explained.now window 0)) }
     ensures err { IfErr result (Fails (W.failures output.old) (W.failures output.new)) }
     ensures ok { OnOk result (W.failures output.new ≡ W.failures output.old) }
     ensures seen { OnOk result (IsSeen explained.now (length (entries_of explained.now)) seen.new) }
@@ -158,9 +113,13 @@ pub(crate) fn write_steps<W: Sink>(
         let entry = walk.step(explained.journal, place, &mut room)?;
         let came = walk.came();
         let end = seen.note(explained, place, came)?;
-        put_step(
-            text, &seen.last, explained, window, place, &entry, end, came,
-        )?;
+        let line = Line {
+            place: place as u32,
+            entry: &entry,
+            end,
+            came,
+        };
+        put_step(text, &seen.last, explained, window, &line)?;
         write_many(output, text)?;
     }
     Ok(())

@@ -8,7 +8,8 @@ ghost use Rattle.hub_story_text.specs.declared.waits.Wait.{Wait};
 ghost use Rattle.hub_story_text.specs.Explained.{IsExplained, entries_of, told_of};
 ghost use Rattle.hub_story_text.specs.Waits.{AreWaits, EndsLate, counts, line_at, told_wait, wait_of, waits as all_waits, waits_text, with_wait};
 
-use crate::explained::{Explained, put_told_line};
+use crate::explained::{Explained, put_line};
+use crate::lines::Line;
 use crate::numbers::put_number;
 use hub_base::{NoMemory, Pid};
 use hub_core::{CaseRoom, ShortEntries};
@@ -153,8 +154,13 @@ fn put_wait(out: &mut Vec<u8>, explained: &Explained, wait: Wait) -> Result<(), 
     let Some(entry) = entries.get(wait.place as usize, &mut room) else {
         return Ok(());
     };
-    let end = explained.ends.at(wait.place as usize);
-    put_told_line(out, explained, wait.place, &entry, end, &[])
+    let line = Line {
+        place: wait.place,
+        entry: &entry,
+        end: explained.known.ends.at(wait.place as usize),
+        came: &[],
+    };
+    put_line(out, explained, &line)
 }
 
 /// Appends the lines of these.

@@ -9,6 +9,7 @@ use Rattle.std.proofs.lemmas.List.Sums.{fold-append}
 use Rattle.std.specs.Prelude.{decimal, not, MatchOption}
 use Rattle.std.specs.Char.{is_ascii_digit}
 use Rattle.std.specs.List.{flat_map, list_all}
+use Rattle.std.proofs.lemmas.Result.{on_ok_weaker}
 use Rattle.hub_base.proofs.Decimals.{digits-of}
 use Rattle.hub_trace.specs.Json as json
 use Rattle.hub_trace.specs.Json.{Nest, Place, State, at}
@@ -18,16 +19,20 @@ use Rattle.hub_trace.specs.Json.Place.{Broken as Failed}
 use Rattle.hub_trace.specs.Diagrams as diagrams
 use Rattle.hub_trace.specs.Diagrams.Place.{Due, Broken}
 use Rattle.hub_trace.specs.Pieces.{behind, escape, escaped_behind, is_spelled, line_behind, number_behind, spelled_behind}
-use Rattle.hub_trace.specs.Pieces.{Chain, GrowsBy, GrowsEscaped, IsSpelled, Stands, Walks}
-use Rattle.hub_trace.specs.Formats.{in_events, margin, Leads}
+use Rattle.hub_trace.specs.Pieces.{Chain, GrowsBy, IsSpelled, Stands, Walks}
+use Rattle.hub_trace.specs.Formats.Format.{Diagram}
+use Rattle.hub_trace.specs.Formats.{margin, Keeps, Leads}
 use Rattle.hub_trace.specs.declared.pieces.Piece.{Piece}
 use Rattle.hub_trace.specs.declared.pieces.Piece.TheVariants as piece
 use Rattle.hub_trace.proofs.Spelled.{number-spelled}
-use Rattle.hub_trace.proofs.Written.{if-ok}
 
 one-step : {S : Type 0} (o : Option S) (K : S → Type 0) → MatchOption o ⊥ K → (u : S) × (o ≡ Some u) × K u
 one-step None K w = absurd w
 one-step (Some u) K w = (u, refl, w)
+
+kept-by : {S : Type 0} (b : Bool) (o : Option S) {u : S} → cond b o None ≡ Some u → (b ≡ true) × (o ≡ Some u)
+kept-by true o so = (refl, so)
+kept-by false o so = cc
 
 -- so does a reader, which reads texts part by part
 module _ {S : Type 0} (behind : Piece → S → Option S) (go : S → List ℕ → S)
@@ -126,6 +131,9 @@ words-lead other nest u text e h = cc
 piece-leads : (p : Piece) (s u : State) (text : List ℕ) → behind p s ≡ Some u → Stands p text → json.after s text ≡ u
 piece-leads (piece.Word bytes) s u text e is = ap (json.after s) is ∙ that-state (json.after s bytes.now) u e
 piece-leads (piece.Number n) s u text e stands = number-leads n s.place s.nest u text e stands.0 stands.1
+piece-leads (piece.With bytes n) s u text e stands =
+    let (spelled, on) = kept-by (list_all is_spelled bytes.now) (spelled_behind s.place s.nest) e in
+    words-lead s.place s.nest u text on (stands spelled)
 piece-leads other s u text e stands = words-lead s.place s.nest u text e stands
 
 abbrev pub JsonAt : State → List ℕ → Type 0
@@ -138,7 +146,7 @@ json_leads r ps s t old new done walks =
     λ grows before h. fold-append json.step json.start before new
     ∙ read behind json.after (λ v xs ys. fold-append json.step v xs ys) piece-leads ps s t (json.after json.start before) old new walks grows.chain
     (sym (fold-append json.step json.start before old) ∙ h) in
-    if-ok r leads done
+    on_ok_weaker r leads done
 
 -- ---- diagrams
 no-newline : (c : ℕ) → is_spelled c ≡ true → (c == 10) ≡ false
@@ -181,27 +189,16 @@ escaped-leads : (p : Piece) (s u : diagrams.Place) (text : List ℕ) → escaped
 escaped-leads (piece.Word bytes) s u text e is = ap (read-escaped s) is ∙ that-place (read-escaped s bytes.now) u e
 escaped-leads (piece.Number n) s u text e stands =
     line-leads s u text e (subst IsSpelled (sym stands.0) (number-spelled n stands.1))
+escaped-leads (piece.With bytes n) s u text e stands =
+    let (spelled, on) = kept-by (list_all is_spelled bytes.now) (line_behind s) e in
+    line-leads s u text on (stands spelled)
 escaped-leads other s u text e stands = line-leads s u text e stands
 
-abbrev pub DiagramAt : diagrams.Place → List ℕ → Type 0
-DiagramAt p text = diagrams.after diagrams.start text ≡ p
-
-pub diagram_leads : {A E : Type 0} (r : Result A E) (ps : List Piece) (s t : diagrams.Place) (old new : List ℕ) → OnOk r (GrowsEscaped ps old new) →
-    Walks escaped_behind ps s t → OnOk r (Leads (DiagramAt s) (DiagramAt t) old new)
-diagram_leads r ps s t old new done walks =
-    let leads : GrowsEscaped ps old new → Leads (DiagramAt s) (DiagramAt t) old new =
-    λ grows before h. ap (λ l. diagrams.after diagrams.start (before ++ l)) grows.is
-    ∙ ap (diagrams.after diagrams.start) (sym (append_assoc before old (flat_map escape grows.plain)))
-    ∙ fold-append diagrams.step diagrams.start (before ++ old) (flat_map escape grows.plain)
-    ∙ ap (λ p. diagrams.after p (flat_map escape grows.plain)) h
-    ∙ read escaped_behind read-escaped escaped-split escaped-leads ps s t s [] grows.plain walks grows.chain refl in
-    if-ok r leads done
-
--- ---- lines of either, and what stands before and behind them
-pub trace_line : {A E : Type 0} (r : Result A E) (ps : List Piece) (old new : List ℕ) → OnOk r (GrowsBy ps old new) →
-    Walks behind ps in_events in_events → OnOk r (Leads (JsonAt in_events) (JsonAt in_events) old new)
-trace_line r ps old new = json_leads r ps in_events in_events old new
-
-pub diagram_line : {A E : Type 0} (r : Result A E) (ps : List Piece) (old new : List ℕ) → OnOk r (GrowsEscaped ps old new) →
-    Walks escaped_behind ps margin margin → OnOk r (Leads (DiagramAt margin) (DiagramAt margin) old new)
-diagram_line r ps old new = diagram_leads r ps margin margin old new
+pub diagram_line : (ps : List Piece) (empty plain old new : List ℕ) → empty ≡ [] → GrowsBy ps empty plain → new ≡ old ++ flat_map escape plain →
+    Walks escaped_behind ps margin margin → Keeps Diagram old new
+diagram_line ps empty plain old new none grows is walks before h =
+    ap (λ l. diagrams.after diagrams.start (before ++ l)) is
+    ∙ ap (diagrams.after diagrams.start) (sym (append_assoc before old (flat_map escape plain)))
+    ∙ fold-append diagrams.step diagrams.start (before ++ old) (flat_map escape plain)
+    ∙ ap (λ p. diagrams.after p (flat_map escape plain)) h
+    ∙ read escaped_behind read-escaped escaped-split escaped-leads ps margin margin margin empty plain walks grows.chain (ap (read-escaped margin) none)

@@ -1,16 +1,16 @@
 -- Texts that are written one after the other.
-use Rattle.std.proofs.Common.{◌≡◌, ◌∙◌, ℕ, false, List, [], ◌∷◌, ◌++◌, ap, refl, sym, append_assoc, append-nil, Option, Result, Ok, Err, OnErr, OnOk, subst}
+use Rattle.std.proofs.Common.{◌≡◌, ◌∙◌, ℕ, false, List, [], ◌∷◌, ◌++◌, ap, refl, sym, append_assoc, Option, subst}
 use Rattle.std.proofs.lemmas.List.Sums.{fold-append}
 use Rattle.std.specs.Io.KnownBytes.{Appends}
 use Rattle.std.proofs.KnownBytes.{Appends-nil, Appends-trans}
-use Rattle.hub_replay.specs.Devices.{AppendsBeginning}
+use Rattle.hub_replay.specs.Devices.{AppendsAllBut, AppendsBeginning, AppendsSome}
 use Rattle.hub_trace.specs.Json as json
 use Rattle.hub_trace.specs.Json.{Nest, State}
 use Rattle.hub_trace.specs.Json.Place.{Broken as Failed}
 use Rattle.hub_trace.specs.Diagrams as diagrams
 use Rattle.hub_trace.specs.Diagrams.Place.{Due, Broken}
 use Rattle.hub_trace.specs.Formats.Format.{Trace, Diagram}
-use Rattle.hub_trace.specs.Formats.{Format, AppendsSome, AtLine, Begins, Goes, IsBegun, Keeps, Leads}
+use Rattle.hub_trace.specs.Formats.{Format, AtLine, Holds, IsBegun, Keeps, Leads}
 
 -- ---- what is no text of a format stays none
 unbroken-place : (p : json.Place) (nest : List Nest) (c : ℕ) → json.is_broken (json.by p nest c).place ≡ false → json.is_broken p ≡ false
@@ -44,97 +44,45 @@ pub whole-begun : (xs ys : List ℕ) → json.IsJson (xs ++ ys) → json.IsBegun
 whole-begun xs ys h = json-begun _ xs ys refl h
 
 -- ---- what was written
-module _ (f : Format) where
-  pub goes-none : (c : Option (List ℕ)) (text : List ℕ) → Goes f c c text text
-  goes-none c text = record { written = []; appends = Appends-nil c; leads = λ before h. h }
+module _ (f : Format) (start : Option (List ℕ)) where
+  pub holds-first : (text : List ℕ) → AtLine f text → Holds f start start text
+  holds-first text h = record { written = []; appends = Appends-nil start; lines = h }
 
   -- lines were put behind the text that waits
-  pub goes-lines : (a b : Option (List ℕ)) (old mid new : List ℕ) → Goes f a b old mid → Keeps f mid new → Goes f a b old new
-  goes-lines a b old mid new goes keeps = record {
-    written = goes.written;
-    appends = goes.appends;
-    leads = λ before h. subst (AtLine f) (append_assoc before goes.written new)
-        (keeps (before ++ goes.written) (subst (AtLine f) (sym (append_assoc before goes.written mid)) (goes.leads before h)));
-  }
+  pub holds-lines : (now : Option (List ℕ)) (old new : List ℕ) → Keeps f old new → Holds f start now old → Holds f start now new
+  holds-lines now old new keeps so = record { written = so.written; appends = so.appends; lines = keeps so.written so.lines }
 
-  pub goes-on : (a b c : Option (List ℕ)) (old mid new : List ℕ) → Goes f a b old mid → Goes f b c mid new → Goes f a c old new
-  goes-on a b c old mid new first second = record {
-    written = first.written ++ second.written;
-    appends = Appends-trans a b c first.written second.written first.appends second.appends;
-    leads = λ before h. subst (AtLine f)
-        (append_assoc before first.written (second.written ++ new) ∙ ap (λ l. before ++ l) (sym (append_assoc first.written second.written new)))
-        (second.leads (before ++ first.written) (subst (AtLine f) (sym (append_assoc before first.written mid)) (first.leads before h)));
-  }
-
-  pub goes-begins : (a b c : Option (List ℕ)) (old mid : List ℕ) → Goes f a b old mid → Begins f b c mid → Begins f a c old
-  goes-begins a b c old mid first second = record {
-    written = first.written ++ second.written;
-    appends = Appends-trans a b c first.written second.written first.appends second.appends;
-    begun = λ before h. subst (IsBegun f) (append_assoc before first.written second.written)
-        (second.begun (before ++ first.written) (subst (AtLine f) (sym (append_assoc before first.written mid)) (first.leads before h)));
+  -- some of it was written
+  pub holds-more : (now next : Option (List ℕ)) (old new : List ℕ) → AppendsAllBut now next old new → Holds f start now old → Holds f start next new
+  holds-more now next old new more so = record {
+    written = so.written ++ more.written;
+    appends = Appends-trans start now next so.written more.written so.appends more.appends;
+    lines = subst (AtLine f) (ap (λ l. so.written ++ l) more.split ∙ sym (append_assoc so.written more.written new)) so.lines;
   }
 
   -- it ended there
-  pub begins-here : (a b : Option (List ℕ)) (old mid : List ℕ) → Goes f a b old mid → Begins f a b old
-  begins-here a b old mid goes = record {
-    written = goes.written;
-    appends = goes.appends;
-    begun = λ before h.
-        begun f (before ++ goes.written) mid (subst (AtLine f) (sym (append_assoc before goes.written mid)) (goes.leads before h));
-  }
+  pub begun-here : (now : Option (List ℕ)) (text : List ℕ) → Holds f start now text → AppendsSome (IsBegun f) start now
+  begun-here now text so = (so.written, begun f so.written text so.lines, so.appends)
 
-  -- all that waited was written, or a beginning of it
-  pub goes-written : (a b : Option (List ℕ)) (text bytes new : List ℕ) → bytes ≡ text → Appends a b bytes → new ≡ [] → Goes f a b text new
-  goes-written a b text bytes new is appends none = record {
-    written = bytes;
-    appends = appends;
-    leads = λ before h. subst (λ l. AtLine f (before ++ l)) (sym (ap (λ l. bytes ++ l) none ∙ append-nil bytes ∙ is)) h;
-  }
+  -- ---- behind it came a text that leads to the end, or a beginning of that
+  module _ (Is : List ℕ → Type 0) (now next : Option (List ℕ)) (mid last bytes : List ℕ) (so : Holds f start now mid)
+      (leads : Leads (AtLine f) Is mid last) (is : bytes ≡ last) where
+    pub whole : Appends now next bytes → AppendsSome Is start next
+    whole appends = (
+      so.written ++ bytes,
+      subst (λ l. Is (so.written ++ l)) (sym is) (leads so.written so.lines),
+      Appends-trans start now next so.written bytes so.appends appends,
+    )
 
-  pub begins-written : (a b : Option (List ℕ)) (text bytes : List ℕ) → bytes ≡ text → AppendsBeginning a b bytes → Begins f a b text
-  begins-written a b text bytes is (front, back, split, appends) = record {
-    written = front;
-    appends = appends;
-    begun = λ before h. begun f (before ++ front) back
-        (subst (AtLine f) (ap (λ l. before ++ l) (sym is ∙ split) ∙ sym (append_assoc before front back)) h);
-  }
+    pub begun-whole : ((xs ys : List ℕ) → Is (xs ++ ys) → IsBegun f xs) → AppendsBeginning now next bytes → AppendsSome (IsBegun f) start next
+    begun-whole begins (front, back, split, appends) = (
+      so.written ++ front,
+      begins (so.written ++ front) back
+          (subst Is (ap (λ l. so.written ++ l) (sym is ∙ split) ∙ sym (append_assoc so.written front back)) (leads so.written so.lines)),
+      Appends-trans start now next so.written front so.appends appends,
+    )
 
-  -- ---- a whole text, whose first lines waited in the beginning
-  pub whole : (Is : List ℕ → Type 0) (a b c : Option (List ℕ)) (first mid last bytes : List ℕ) → AtLine f first → Goes f a b first mid →
-      Leads (AtLine f) Is mid last → bytes ≡ last → Appends b c bytes → AppendsSome Is a c
-  whole Is a b c first mid last bytes h goes leads is appends = (
-    goes.written ++ bytes,
-    subst (λ l. Is (goes.written ++ l)) (sym is) (leads goes.written (goes.leads [] h)),
-    Appends-trans a b c goes.written bytes goes.appends appends,
-  )
-
-  -- a beginning of it
-  pub begun-lines : (a b : Option (List ℕ)) (first : List ℕ) → AtLine f first → Begins f a b first → AppendsSome (IsBegun f) a b
-  begun-lines a b first h begins = (begins.written, begins.begun [] h, begins.appends)
-
-  pub begun-whole : (Is : List ℕ → Type 0) → ((xs ys : List ℕ) → Is (xs ++ ys) → IsBegun f xs) →
-      (a b c : Option (List ℕ)) (first mid last bytes : List ℕ) → AtLine f first → Goes f a b first mid → Leads (AtLine f) Is mid last →
-      bytes ≡ last → AppendsBeginning b c bytes → AppendsSome (IsBegun f) a c
-  begun-whole Is begins a b c first mid last bytes h goes leads is (front, back, split, appends) = (
-    goes.written ++ front,
-    begins (goes.written ++ front) back
-        (subst Is (ap (λ l. goes.written ++ l) (sym is ∙ split) ∙ sym (append_assoc goes.written front back)) (leads goes.written (goes.leads [] h))),
-    Appends-trans a b c goes.written front goes.appends appends,
-  )
-
-pub nothing-begun : (f : Format) (a : Option (List ℕ)) → AppendsSome (IsBegun f) a a
-nothing-begun Trace a = ([], refl, Appends-nil a)
-nothing-begun Diagram a = ([], refl, Appends-nil a)
-
--- where it failed
-pub on-err : {A E P : Type 0} (r : Result A E) → P → OnErr r P
-on-err (Ok x) p = tt
-on-err (Err e) p = p
-
-pub if-ok : {A E P Q : Type 0} (r : Result A E) → (P → Q) → OnOk r P → OnOk r Q
-if-ok (Ok x) f p = f p
-if-ok (Err e) f p = p
-
-pub if-err : {A E P Q : Type 0} (r : Result A E) → (P → Q) → OnErr r P → OnErr r Q
-if-err (Ok x) f p = p
-if-err (Err e) f p = f p
+  -- a beginning of what waits was written
+  pub begun-more : (now next : Option (List ℕ)) (text : List ℕ) → AppendsBeginning now next text → Holds f start now text →
+      AppendsSome (IsBegun f) start next
+  begun-more now next text more so = begun-whole (AtLine f) now next text text text so (λ before h. h) refl (begun f) more

@@ -1,6 +1,7 @@
 -- The two formats, whose texts are written line by line, and how far a writer of one has come.
 use Rattle.std.specs.Prelude.{◌≡◌, ℕ, List, [], ◌∷◌, ◌++◌, codes, Option}
 use Rattle.std.specs.Io.KnownBytes.{Appends}
+use Rattle.hub_replay.specs.Devices.{AppendsSome}
 use Rattle.hub_trace.specs.Json as json
 use Rattle.hub_trace.specs.Json.Nest.{Array, Object}
 use Rattle.hub_trace.specs.Json.Place.{Value}
@@ -31,26 +32,19 @@ IsBegun Diagram text = diagrams.IsBegun text
 abbrev pub Leads : (List ℕ → Type 0) → (List ℕ → Type 0) → List ℕ → List ℕ → Type 0
 Leads From To old new = (before : List ℕ) → From (before ++ old) → To (before ++ new)
 
--- in a line of a diagram
-abbrev pub InLine : List ℕ → Type 0
-InLine text = diagrams.after diagrams.start text ≡ Due []
-
 -- it grew by whole lines
 abbrev pub Keeps : Format → List ℕ → List ℕ → Type 0
 Keeps f old new = Leads (AtLine f) (AtLine f) old new
 
--- bytes were written, and these with the new text, which waits to be written, are the old one and whole lines
-pub record Goes (f : Format) (before after : Option (List ℕ)) (old new : List ℕ) : Type 0 where
+-- since the start bytes were written that, with a text that waits to be, are whole lines
+pub record Holds (f : Format) (start now : Option (List ℕ)) (text : List ℕ) : Type 0 where
   pub written : List ℕ
-  pub appends : Appends before after written
-  pub leads : Leads (AtLine f) (AtLine f) old (written ++ new)
+  pub appends : Appends start now written
+  pub lines : AtLine f (written ++ text)
 
--- what was written begins such lines
-pub record Begins (f : Format) (before after : Option (List ℕ)) (old : List ℕ) : Type 0 where
-  pub written : List ℕ
-  pub appends : Appends before after written
-  pub begun : Leads (AtLine f) (IsBegun f) old written
+-- if they were whole lines before, they are so now, or what was written begins such
+abbrev pub Goes : Format → Option (List ℕ) → Option (List ℕ) → List ℕ → List ℕ → Type 0
+Goes f before after old new = (start : Option (List ℕ)) → Holds f start before old → Holds f start after new
 
--- known bytes grew by a text that is so
-abbrev pub AppendsSome : (List ℕ → Type 0) → Option (List ℕ) → Option (List ℕ) → Type 0
-AppendsSome Is old new = (text : List ℕ) × Is text × Appends old new text
+abbrev pub Begins : Format → Option (List ℕ) → Option (List ℕ) → List ℕ → Type 0
+Begins f before after old = (start : Option (List ℕ)) → Holds f start before old → AppendsSome (IsBegun f) start after

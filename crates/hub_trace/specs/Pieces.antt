@@ -21,6 +21,7 @@ IsSpelled text = list_all is_spelled text ≡ true
 abbrev pub Stands : Piece → List ℕ → Type 0
 Stands (piece.Word bytes) text = text ≡ bytes.now
 Stands (piece.Number n) text = (text ≡ decimal n) × (n < 2 ^ 64)
+Stands (piece.With bytes n) text = IsSpelled bytes.now → IsSpelled text
 Stands other text = IsSpelled text
 
 -- a text grew by what may stand for a piece; and for these, one after the other
@@ -54,17 +55,12 @@ spelled_behind other nest = None
 abbrev pub behind : Piece → State → Option State
 behind (piece.Word bytes) s = Some (json.after s bytes.now)
 behind (piece.Number n) s = number_behind n s.place s.nest
+behind (piece.With bytes n) s = if list_all is_spelled bytes.now then spelled_behind s.place s.nest else None
 behind other s = spelled_behind s.place s.nest
 
 -- ---- behind a `#`, which is 35, Mermaid would read a comment
 abbrev pub escape : ℕ → List ℕ
 escape c = if c == 35 then codes "#35;" else c ∷ []
-
--- a text grew by what may stand for these, escaped
-pub record GrowsEscaped (ps : List Piece) (old new : List ℕ) : Type 0 where
-  pub plain : List ℕ
-  pub chain : Chain ps [] plain
-  pub is : new ≡ old ++ flat_map escape plain
 
 -- in a diagram numbers, and what is spelled, stand in a line
 abbrev pub line_behind : diagrams.Place → Option diagrams.Place
@@ -73,4 +69,5 @@ line_behind other = None
 
 abbrev pub escaped_behind : Piece → diagrams.Place → Option diagrams.Place
 escaped_behind (piece.Word bytes) p = Some (diagrams.after p (flat_map escape bytes.now))
+escaped_behind (piece.With bytes n) p = if list_all is_spelled bytes.now then line_behind p else None
 escaped_behind other p = line_behind p

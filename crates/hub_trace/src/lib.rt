@@ -1,11 +1,11 @@
 //! A journal for viewers that others made: a sequence diagram for Mermaid, and a trace in Chrome's format.
 //!
-//! Both are written from what the journal tells, event by event.
+//! Both are written step by step, as a walk along the journal makes the steps.
 #![tactic(auto)]
 
 mod diagram;
 mod pieces;
-mod rooms;
+mod ports;
 mod trace;
 mod traffic;
 mod writing;

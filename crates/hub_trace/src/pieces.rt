@@ -1,7 +1,7 @@
 //! The pieces of a line.
 
 ghost use Rattle.std.specs.Prelude.{◌≡◌, ◌++◌, ◌<◌, ◌+◌, List, ℕ, codes, drop, length, vec_len, OnOk};
-ghost use Rattle.hub_trace.specs.declared.pieces.Piece.TheVariants.{Asks, Tells};
+ghost use Rattle.hub_trace.specs.declared.pieces.Piece.TheVariants.{Asks, Tells, With};
 ghost use Rattle.hub_trace.specs.Formats.Format.{Trace};
 ghost use Rattle.hub_trace.specs.Formats.{Keeps, in_events};
 ghost use Rattle.hub_trace.specs.Pieces.{Grows, GrowsBy, Walks, behind};
@@ -27,6 +27,8 @@ pub(crate) enum Piece<'a> {
     Waited(bool),
     /// That a process is the clock, if it is.
     Clock(bool),
+    /// A word that spells nothing but visible bytes and spaces, with a number, if there is one.
+    With(&'a [u8], Option<u64>),
 }
 
 /// The number of the step at this place, as it is printed.
@@ -50,8 +52,9 @@ fn take_out(out: &mut Vec<u8>, line: usize, process: usize)
         → (behind : ℕ) × (out.new.items ≡ front ++ drop behind words) }
 {
     out.truncate(out.len() - 1);
-    let behind = line + process.min(out.len() - line);
-    out.drain(line..behind);
+    let process = process.min(out.len() - line);
+    out.copy_within(line + process.., line);
+    out.truncate(out.len() - process);
 }
 
 /// Appends what an entry asks. The third edition has every entry.
@@ -86,6 +89,17 @@ fn put_told(out: &mut Vec<u8>, part: Part, what: What) -> Result<(), NoMemory>
     }
 }
 
+/// Appends a word with a number, if there is one.
+fn put_with(out: &mut Vec<u8>, word: &[u8], number: Option<u64>) -> Result<(), NoMemory>
+    ensures { OnOk result (Grows (With word.entry number) out.old.items out.new.items) }
+{
+    let Some(number) = number else {
+        return Ok(());
+    };
+    out.extend_from_slice(word)?;
+    Ok(write_number(out, number)?)
+}
+
 /// Appends a piece.
 fn put_piece(out: &mut Vec<u8>, piece: &Piece<'_>) -> Result<(), NoMemory>
     ensures { OnOk result (Grows piece.now out.old.items out.new.items) }
@@ -100,6 +114,7 @@ fn put_piece(out: &mut Vec<u8>, piece: &Piece<'_>) -> Result<(), NoMemory>
         Piece::Waited(false) => Ok(out.extend_from_slice(b"step")?),
         Piece::Clock(true) => Ok(out.extend_from_slice(b", the clock")?),
         Piece::Clock(false) => Ok(()),
+        Piece::With(word, number) => put_with(out, word, *number),
     }
 }
 

@@ -1,19 +1,21 @@
 //! A trace in Chrome's format.
 
-ghost use Rattle.std.specs.Prelude.{◌≡◌, IfErr, IfOk, OnErr, OnOk};
+ghost use Rattle.std.specs.Prelude.{◌≡◌, ◌<◌, ◌-◌, ◌^◌, length, IfErr, IfOk, OnErr, OnOk};
+ghost use Rattle.hub_base.specs.Head.{IsHead};
+ghost use Rattle.hub_replay.specs.Devices.{AppendsSome};
 ghost use Rattle.hub_replay.specs.ViewFaults.{Fails};
 ghost use Rattle.hub_trace.specs.Formats.Format.{Trace};
-ghost use Rattle.hub_trace.specs.Formats.{AppendsSome, AtLine, Begins, Goes, Keeps, Leads};
+ghost use Rattle.hub_trace.specs.Formats.{AtLine, Keeps, Leads};
 ghost use Rattle.hub_trace.specs.Json.{IsBegun, IsJson};
 
 use crate::pieces::{Piece, number_of, put_event, put_pieces};
 use crate::traffic::Traffic;
-use crate::writing::{Pen, write_each};
+use crate::writing::{Pen, write_steps};
 use hub_base::{EntryRef, NoMemory, Pid, Step, StepRef, What};
 use hub_core::{CaseRoom, ShortEntries, ShortJournal};
 use hub_replay::{Sink, ViewFault, write_whole};
-use hub_story::{Part, Story, Told, clock_in, is_clock, part_of};
-use std::alloc::Global;
+use hub_story::{Part, Told, clock_in, is_clock, part_of};
+use std::alloc::{AllocError, Global};
 
 /// Appends the name of a process.
 fn put_name(text: &mut Vec<u8>, pid: u8, clock: Option<Pid>) -> Result<(), NoMemory>
@@ -144,92 +146,94 @@ fn put_mark(text: &mut Vec<u8>, said: &Said<'_>) -> Result<(), NoMemory>
     )
 }
 
-/// Events of these entries.
-#[derive(Clone, Copy)]
+/// What is known of a journal, and kept of its steps for the last lines.
+#[derive(Drop)]
 struct Events<'a> {
     /// The entries.
     entries: &'a ShortEntries,
     /// The clock, if one is.
     clock: Option<Pid>,
+    /// The calls that wait, by arrival.
+    waiting: Vec<Told>,
+    /// The values that moved.
+    traffic: Traffic,
 }
 
-impl Pen<Told> for Events<'_> {
+/// Takes in an event: that a call waits, or how one ended.
+fn note_waiting(waiting: &mut Vec<Told>, told: &Told) -> Result<(), AllocError> {
+    if told.event.what.is_parked() {
+        waiting.push(*told)?;
+    } else {
+        waiting.retain(|call| call.asked != told.asked);
+    }
+    Ok(())
+}
+
+impl Events<'_> {
+    /// Appends the slices of the calls that wait in the end.
+    fn put_waiting(&self, text: &mut Vec<u8>) -> Result<(), NoMemory>
+        ensures { OnOk result (Keeps Trace text.old.items text.new.items) }
+    {
+        let mut room = CaseRoom::new();
+        for told in &self.waiting {
+            let Some(entry) = self.entries.get(told.asked as usize, &mut room) else {
+                continue;
+            };
+            let said = Said {
+                told,
+                entry: &entry,
+                part: Part::NoPart,
+            };
+            put_slice(text, true, self.entries.len() as u64, &said)?;
+        }
+        Ok(())
+    }
+}
+
+impl Pen for Events<'_> {
     ghost format = { Trace };
 
-    fn put(&mut self, text: &mut Vec<u8>, told: &Told) -> Result<(), NoMemory> {
-        let mut room = CaseRoom::new();
-        let Some(entry) = self.entries.get(told.asked as usize, &mut room) else {
-            return Ok(());
-        };
-        let said = Said {
-            told,
-            entry: &entry,
-            part: part_of(self.clock, self.entries, told),
-        };
+    fn put(
+        &mut self,
+        text: &mut Vec<u8>,
+        entry: &EntryRef<'_>,
+        told: &Told,
+        _came: &[Told],
+    ) -> Result<(), NoMemory> {
+        note_waiting(&mut self.waiting, told)?;
+        self.traffic.note(self.entries, entry, told)?;
+        let part = part_of(self.clock, self.entries, told);
+        let said = Said { told, entry, part };
         put_ended(text, &said)?;
         put_mark(text, &said)
     }
 }
 
-/// Calls among these entries that wait in the end.
-#[derive(Clone, Copy)]
-struct Waiting<'a>(&'a ShortEntries);
-
-impl Pen<Told> for Waiting<'_> {
-    ghost format = { Trace };
-
-    fn put(&mut self, text: &mut Vec<u8>, told: &Told) -> Result<(), NoMemory> {
-        let mut room = CaseRoom::new();
-        let Some(entry) = self.0.get(told.asked as usize, &mut room) else {
-            return Ok(());
-        };
-        let said = Said {
-            told,
-            entry: &entry,
-            part: Part::NoPart,
-        };
-        put_slice(text, true, self.0.len() as u64, &said)
-    }
-}
-
-/// Writes these events, the calls that wait in the end, and the values of each port.
-fn write_lines<W: Sink>(
-    output: &mut W,
-    text: &mut Vec<u8>,
-    events: &mut Events<'_>,
-    traffic: &Traffic<'_>,
-    waiting: &[Told],
-) -> Result<(), ViewFault>
-    ensures goes { OnOk result (Goes Trace (W.contents output.old) (W.contents output.new) text.old.items text.new.items) }
-    ensures begun { OnErr result (Begins Trace (W.contents output.old) (W.contents output.new) text.old.items) }
-    ensures err { IfErr result (Fails (W.failures output.old) (W.failures output.new)) }
-    ensures ok { OnOk result (W.failures output.new ≡ W.failures output.old) }
-{
-    write_each(output, text, events, traffic.told)?;
-    write_each(output, text, &mut Waiting(events.entries), waiting)?;
-    traffic.write(output, text)
-}
-
-/// Writes a journal as a trace in Chrome's format, a step being a microsecond: a slice for each entry until it ended; a mark
-/// for each call that was stalled or cancelled, for each close and reopen, and where a process is started again; and for each
-/// port the values that went through it, as flows, and how many it held. Steps are counted from 1.
+/// Writes a journal of 1 to `MOST_PROCS` processes as a trace in Chrome's format, a step being a microsecond: a slice for each
+/// entry until it ended; a mark for each call that was stalled or cancelled, for each close and reopen, and where a process is
+/// started again; and for each port the values that went through it, as flows, and how many it held. Steps are counted from 1.
 pub fn write_trace<W: Sink>(
     alloc: Global,
     journal: &ShortJournal,
-    story: &Story,
     output: &mut W,
 ) -> Result<(), ViewFault>
+    requires head { IsHead journal.now.head }
+    requires few { length journal.now.entries < 2 ^ 32 - 1 }
     ensures whole { OnOk result (AppendsSome IsJson (W.contents output.old) (W.contents output.new)) }
     ensures beginning { OnErr result (AppendsSome IsBegun (W.contents output.old) (W.contents output.new)) }
     ensures err { IfErr result (Fails (W.failures output.old) (W.failures output.new)) }
     ensures ok { OnOk result (W.failures output.new ≡ W.failures output.old) }
 {
-    let entries = journal.entries();
-    let traffic = Traffic::of(alloc, entries, &story.told)?;
-    let clock = clock_in(journal);
-    let mut text = first_lines(alloc, journal.head().procs, clock)?;
-    let mut events = Events { entries, clock };
-    write_lines(output, &mut text, &mut events, &traffic, &story.waiting)?;
+    let mut events = Events {
+        entries: journal.entries(),
+        clock: clock_in(journal),
+        waiting: Vec::new(alloc),
+        traffic: Traffic::new(alloc)?,
+    };
+    let mut text = first_lines(alloc, journal.head().procs, events.clock)?;
+    write_steps(output, &mut text, &mut events, journal)?;
+    events.put_waiting(&mut text)?;
+    events.traffic.write(output, &mut text)?;
     put_end(&mut text)?;
     write_whole(output, &text)?;
     Ok(())

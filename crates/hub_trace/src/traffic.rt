@@ -7,12 +7,11 @@ ghost use Rattle.hub_trace.specs.Formats.Format.{Trace};
 ghost use Rattle.hub_trace.specs.Formats.{Begins, Goes, Keeps};
 
 use crate::pieces::{Piece, number_of, put_event};
-use crate::rooms::Rooms;
-use crate::writing::{Pen, write_each};
-use hub_base::{NoMemory, Pid, Port, What};
+use crate::ports::Ports;
+use hub_base::{EntryRef, NoMemory, Pid, Port};
 use hub_core::ShortEntries;
 use hub_parts::Side;
-use hub_replay::{Sink, ViewFault};
+use hub_replay::{Sink, ViewFault, write_many};
 use hub_story::{ByPort, Told, move_of};
 use std::alloc::{AllocError, Global};
 
@@ -25,28 +24,6 @@ struct Moved {
     pid: Pid,
     /// On which side of the port.
     side: Side,
-}
-
-/// The values that moved through each port, in order.
-fn all_by_port(
-    alloc: Global,
-    entries: &ShortEntries,
-    told: &[Told],
-) -> Result<ByPort<Moved>, AllocError> {
-    let mut all = ByPort::new(alloc)?;
-    for told in told {
-        if let Some(moved) = move_of(entries, told) {
-            all.push(
-                moved.port,
-                Moved {
-                    by: told.by,
-                    pid: told.event.pid,
-                    side: moved.side,
-                },
-            )?;
-        }
-    }
-    Ok(all)
 }
 
 /// How many of these were received.
@@ -74,45 +51,36 @@ struct Passage {
 }
 
 impl Passage {
-    /// Appends where the flow of a value begins, by its number. It stands behind a quarter of its step.
-    fn put_sent(&self, text: &mut Vec<u8>, moved: &Moved) -> Result<(), NoMemory>
+    /// Appends an end of a value's flow, by the number of the value. A flow begins behind a quarter of the step that sent the
+    /// value, and ends behind three quarters of the one that received it.
+    fn put_flow(&self, text: &mut Vec<u8>, moved: &Moved) -> Result<(), NoMemory>
         ensures { OnOk result (Keeps Trace text.old.items text.new.items) }
     {
+        let (begin, part, number): (&[u8], &[u8], usize) = match moved.side {
+            Side::Send => (
+                b"{\"ph\":\"s\",\"pid\":1,\"tid\":",
+                b".25,\"cat\":\"port ",
+                self.sent,
+            ),
+            Side::Recv => (
+                b"{\"ph\":\"f\",\"bp\":\"e\",\"pid\":1,\"tid\":",
+                b".75,\"cat\":\"port ",
+                self.received,
+            ),
+        };
         put_event(
             text,
             &[
-                Piece::Word(b"{\"ph\":\"s\",\"pid\":1,\"tid\":"),
+                Piece::Word(begin),
                 Piece::Number(moved.pid.0.into()),
                 Piece::Word(b",\"ts\":"),
                 Piece::Number(number_of(moved.by)),
-                Piece::Word(b".25,\"cat\":\"port "),
+                Piece::Word(part),
                 Piece::Number(self.port.0.into()),
                 Piece::Word(b"\",\"name\":\"port "),
                 Piece::Number(self.port.0.into()),
                 Piece::Word(b"\",\"id\":"),
-                Piece::Number(self.sent as u64),
-                Piece::Word(b"},\n"),
-            ],
-        )
-    }
-
-    /// Appends where it ends, behind three quarters of its step.
-    fn put_received(&self, text: &mut Vec<u8>, moved: &Moved) -> Result<(), NoMemory>
-        ensures { OnOk result (Keeps Trace text.old.items text.new.items) }
-    {
-        put_event(
-            text,
-            &[
-                Piece::Word(b"{\"ph\":\"f\",\"bp\":\"e\",\"pid\":1,\"tid\":"),
-                Piece::Number(moved.pid.0.into()),
-                Piece::Word(b",\"ts\":"),
-                Piece::Number(number_of(moved.by)),
-                Piece::Word(b".75,\"cat\":\"port "),
-                Piece::Number(self.port.0.into()),
-                Piece::Word(b"\",\"name\":\"port "),
-                Piece::Number(self.port.0.into()),
-                Piece::Word(b"\",\"id\":"),
-                Piece::Number(self.received as u64),
+                Piece::Number(number as u64),
                 Piece::Word(b"},\n"),
             ],
         )
@@ -146,15 +114,9 @@ impl Passage {
         }
     }
 
-    /// Appends the end of a value's flow. A value that stays in its port has none.
-    fn put_flow(&self, text: &mut Vec<u8>, moved: &Moved) -> Result<(), NoMemory>
-        ensures { OnOk result (Keeps Trace text.old.items text.new.items) }
-    {
-        match moved.side {
-            Side::Send if self.sent < self.received_in_all => self.put_sent(text, moved),
-            Side::Send => Ok(()),
-            Side::Recv => self.put_received(text, moved),
-        }
+    /// Whether the flow of a value has such an end. That of a value that stays in its port has none.
+    fn has_end(&self, moved: &Moved) -> bool {
+        matches!(moved.side, Side::Recv) || self.sent < self.received_in_all
     }
 
     /// Counts a value that moved.
@@ -165,14 +127,15 @@ impl Passage {
         }
         self.by = Some(moved.by);
     }
-}
 
-impl Pen<Moved> for Passage {
-    ghost format = { Trace };
-
-    fn put(&mut self, text: &mut Vec<u8>, moved: &Moved) -> Result<(), NoMemory> {
+    /// Appends the lines of the next value that moved.
+    fn put(&mut self, text: &mut Vec<u8>, moved: &Moved) -> Result<(), NoMemory>
+        ensures { OnOk result (Keeps Trace text.old.items text.new.items) }
+    {
         self.put_level(text, Some(moved.by))?;
-        self.put_flow(text, moved)?;
+        if self.has_end(moved) {
+            self.put_flow(text, moved)?;
+        }
         self.count(moved);
         Ok(())
     }
@@ -199,55 +162,52 @@ fn write_port<W: Sink>(
         received: 0,
         by: None,
     };
-    write_each(output, text, &mut passage, moves)?;
+    for moved in moves {
+        passage.put(text, moved)?;
+        write_many(output, text)?;
+    }
     passage.put_level(text, None)?;
     Ok(())
 }
 
-/// What is told of some entries, and apart from it the values that moved through each port.
+/// The values that moved through the ports of a journal.
 #[derive(Drop)]
-pub(crate) struct Traffic<'a> {
-    /// All that is told.
-    pub(crate) told: &'a [Told],
-    /// Which ports have room.
-    rooms: Rooms,
+pub(crate) struct Traffic {
+    /// The ports.
+    ports: Ports,
     /// The values that moved through each port, in order.
     by_port: ByPort<Moved>,
 }
 
-impl<'a> Traffic<'a> {
-    /// Of these entries.
-    pub(crate) fn of(
-        alloc: Global,
-        entries: &ShortEntries,
-        told: &'a [Told],
-    ) -> Result<Traffic<'a>, AllocError> {
+impl Traffic {
+    /// None.
+    pub(crate) fn new(alloc: Global) -> Result<Traffic, AllocError> {
         Ok(Traffic {
-            told,
-            rooms: Rooms::of(alloc, entries, told)?,
-            by_port: all_by_port(alloc, entries, told)?,
+            ports: Ports::new(alloc)?,
+            by_port: ByPort::new(alloc)?,
         })
     }
 
-    /// Writes the values of the port that is told to be made.
-    fn write_made<W: Sink>(
-        &self,
-        output: &mut W,
-        text: &mut Vec<u8>,
+    /// Takes in what is told of this entry, one of these.
+    pub(crate) fn note(
+        &mut self,
+        entries: &ShortEntries,
+        entry: &EntryRef<'_>,
         told: &Told,
-    ) -> Result<(), ViewFault>
-        ensures goes { OnOk result (Goes Trace (W.contents output.old) (W.contents output.new) text.old.items text.new.items) }
-        ensures begun { OnErr result (Begins Trace (W.contents output.old) (W.contents output.new) text.old.items) }
-        ensures err { IfErr result (Fails (W.failures output.old) (W.failures output.new)) }
-        ensures ok { OnOk result (W.failures output.new ≡ W.failures output.old) }
-    {
-        match told.event.what {
-            What::Made(port) => {
-                let moves = self.by_port.on(port);
-                write_port(output, text, port, self.rooms.has(port), moves)
-            }
-            _ => Ok(()),
-        }
+    ) -> Result<(), AllocError> {
+        self.ports.note(entry, told)?;
+        let Some(moved) = move_of(entries, told) else {
+            return Ok(());
+        };
+        let pid = told.event.pid;
+        self.by_port.push(
+            moved.port,
+            Moved {
+                by: told.by,
+                pid,
+                side: moved.side,
+            },
+        )
     }
 
     /// Writes the values of each port, in the order in which they were made.
@@ -257,8 +217,9 @@ impl<'a> Traffic<'a> {
         ensures err { IfErr result (Fails (W.failures output.old) (W.failures output.new)) }
         ensures ok { OnOk result (W.failures output.new ≡ W.failures output.old) }
     {
-        for told in self.told {
-            self.write_made(output, text, told)?;
+        for port in &self.ports.made {
+            let has_room = self.ports.has_room(*port);
+            write_port(output, text, *port, has_room, self.by_port.on(*port))?;
         }
         Ok(())
     }

@@ -13,7 +13,7 @@ use crate::refusal::Refusal;
 use hub_base::NoMemory;
 use hub_core::write_short_journal;
 use hub_replay::{Sink, Source, SourceFault, read_up_to, write_whole};
-use hub_runner::{NoGate, ShortReport, run_scenario_short, write_short_report};
+use hub_runner::{NoGate, Report, run_scenario, write_report};
 use hub_scenario::{MOST_FILE_BYTES, read_scenario};
 use std::alloc::Global;
 use std::rt::Files;
@@ -43,25 +43,25 @@ fn scenario_bytes<R: Files, S: Source>(
 }
 
 /// What is printed of a run.
-fn text_of(alloc: Global, report: &ShortReport, journal: bool) -> Result<Vec<u8>, NoMemory>
+fn text_of(alloc: Global, report: &Report, journal: bool) -> Result<Vec<u8>, NoMemory>
     requires head { IsHead report.now.journal.head }
     requires fits { AreOf report.now.journal.head.edition report.now.journal.entries }
     ensures { IfOk result (λ text. text.items ≡ printed journal report.now) }
 {
     let mut text = Vec::new(alloc);
     if journal {
-        write_short_journal(&mut text, report.journal())?;
+        write_short_journal(&mut text, &report.journal)?;
     } else {
-        write_short_report(&mut text, report)?;
+        write_report(&mut text, report)?;
     }
     Ok(text)
 }
 
 /// Whether some call stalled in the run.
-fn outcome_of(report: &ShortReport) -> Outcome
+fn outcome_of(report: &Report) -> Outcome
     ensures { TellsStalls result report.now.stalled }
 {
-    if report.stalled() > 0 {
+    if report.stalled > 0 {
         Outcome::Stalled
     } else {
         Outcome::Done
@@ -86,7 +86,7 @@ fn run_bytes<R: Threads + Wait + Sync, W: Sink>(
     ensures found { IfErr result (λ refusal. RefusesRun bytes.now refusal) }
 {
     let scenario = read_scenario(alloc, bytes)?;
-    let report = run_scenario_short(rt, alloc, &scenario, &NoGate)?;
+    let report = run_scenario(rt, alloc, &scenario, &NoGate)?;
     let text = text_of(alloc, &report, journal)?;
     write_whole(output, &text)?;
     Ok(outcome_of(&report))

@@ -2,7 +2,7 @@
 
 use crate::asked::Form;
 use crate::explain::explain_given;
-use crate::given::{Given, journal_command, optional, read_given};
+use crate::given::{Given, optional, over_journal, read_given};
 use clap::{Arg, ArgMatches, Command};
 use hub_replay::Sink;
 use hub_story_text::Paint;
@@ -45,11 +45,13 @@ fn colour_option<'a>(alloc: Global) -> Arg<'a> {
 }
 
 pub(super) fn grammar<'a>(alloc: Global) -> Result<Command<'a>, AllocError> {
-    journal_command(
+    over_journal(
         alloc,
-        "story",
-        "Tells a journal as text: a line for each step, who waits where all stalled and in the end, and what the ports carried",
-        "chanhub_tool story [FROM [TO]] [FILE] [-o OUT] [--color WHEN]",
+        Command::new(alloc, "story")
+            .about(
+                "Tells a journal as text: a line for each step, who waits where all stalled and in the end, and what the ports carried",
+            )
+            .override_usage("chanhub_tool story [FROM [TO]] [FILE] [-o OUT] [--color WHEN]"),
     )?
     .arg(colour_option(alloc))
 }

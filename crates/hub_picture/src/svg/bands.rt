@@ -3,9 +3,9 @@
 //! Bands are halved until one is left, and each half looks only at those shapes of the whole that it shows. So a shape
 //! that few bands show is looked at few times, however many bands there are.
 
-ghost use Rattle.std.specs.Prelude.{◌≡◌, ◌<◌, IfErr, OnOk};
+ghost use Rattle.std.specs.Prelude.{◌≡◌, ◌<◌, IfErr, OnErr, OnOk};
 ghost use Rattle.hub_replay.specs.ViewFaults.{Fails};
-ghost use Rattle.hub_picture.specs.Reading.{Elements, Writes, in_root};
+ghost use Rattle.hub_picture.specs.Reading.{Begins, Elements, Goes};
 
 use super::entries::Entries;
 use super::lanes::{Lanes, put_ticks};
@@ -16,7 +16,7 @@ use crate::asked::Shown;
 use crate::frame::{Frame, frame_of, steps_between};
 use crate::pen::{put_all, put_each};
 use crate::{Arrow, Asked, Drawing, Held};
-use hub_replay::{Sink, ViewFault, write_whole};
+use hub_replay::{Sink, ViewFault, write_many};
 use hub_story::Told;
 use std::alloc::AllocError;
 
@@ -77,7 +77,7 @@ fn put_shapes(
     put_front(out, frame, &shapes.bars, &shapes.boxes, &shapes.arrows)
 }
 
-/// Writes a band with what it shows of these shapes.
+/// Writes a band with what it shows of these shapes, or leaves it in `text`.
 fn write_band<W: Sink>(
     output: &mut W,
     text: &mut Vec<u8>,
@@ -85,17 +85,17 @@ fn write_band<W: Sink>(
     drawing: &Drawing,
     shapes: &Shapes<'_>,
 ) -> Result<(), ViewFault>
-    ensures text { Writes (W.contents output.old) (W.contents output.new) in_root in_root result }
+    ensures goes { OnOk result (Goes (W.contents output.old) (W.contents output.new) text.old.items text.new.items) }
+    ensures begun { OnErr result (Begins (W.contents output.old) (W.contents output.new) text.old.items) }
     ensures err { IfErr result (Fails (W.failures output.old) (W.failures output.new)) }
     ensures ok { OnOk result (W.failures output.new ≡ W.failures output.old) }
 {
-    text.clear();
     put_shapes(text, frame, drawing, shapes)?;
-    write_whole(output, text)?;
+    write_many(output, text)?;
     Ok(())
 }
 
-/// Writes the bands from one to another, each as soon as its text is made.
+/// Writes the bands from one to another.
 fn write_between<W: Sink>(
     output: &mut W,
     text: &mut Vec<u8>,
@@ -105,7 +105,8 @@ fn write_between<W: Sink>(
     end: u32,
 ) -> Result<(), ViewFault>
     requires { first < end }
-    ensures text { Writes (W.contents output.old) (W.contents output.new) in_root in_root result }
+    ensures goes { OnOk result (Goes (W.contents output.old) (W.contents output.new) text.old.items text.new.items) }
+    ensures begun { OnErr result (Begins (W.contents output.old) (W.contents output.new) text.old.items) }
     ensures err { IfErr result (Fails (W.failures output.old) (W.failures output.new)) }
     ensures ok { OnOk result (W.failures output.new ≡ W.failures output.old) }
 {
@@ -127,13 +128,14 @@ fn write_between<W: Sink>(
     }
 }
 
-/// Writes the bands.
+/// Writes `text`, and behind it the bands. The last of them may be left in `text`.
 pub(crate) fn write_bands<W: Sink>(
     output: &mut W,
     text: &mut Vec<u8>,
     drawing: &Drawing,
 ) -> Result<(), ViewFault>
-    ensures text { Writes (W.contents output.old) (W.contents output.new) in_root in_root result }
+    ensures goes { OnOk result (Goes (W.contents output.old) (W.contents output.new) text.old.items text.new.items) }
+    ensures begun { OnErr result (Begins (W.contents output.old) (W.contents output.new) text.old.items) }
     ensures err { IfErr result (Fails (W.failures output.old) (W.failures output.new)) }
     ensures ok { OnOk result (W.failures output.new ≡ W.failures output.old) }
 {

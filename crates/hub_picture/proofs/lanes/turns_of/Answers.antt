@@ -1,5 +1,5 @@
 use Rattle.std.proofs.Common.{◌∙◌, [], ap, sym}
-use Rattle.hub_story.proofs.Filters.{kept-none, kept-some}
+use Rattle.hub_base.proofs.Growing.{kept-none, kept-some}
 use Rattle.hub_picture.specs.Lanes.{turn_of}
 use Rattle.hub_picture.proofs.lanes.turns_of.Goals.{in-Some+in_ok-push, in_default}
 use Rattle.hub_picture.proofs.lanes.turns_of.Goals as goal

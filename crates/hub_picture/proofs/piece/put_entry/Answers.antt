@@ -1,6 +1,6 @@
 use Rattle.hub_base.specs.Lines.{line}
 use Rattle.hub_base.specs.declared.head.Edition.TheVariants.{Three}
-use Rattle.hub_story.proofs.Editions.{three-has}
+use Rattle.hub_base.proofs.Editions.{three-has}
 use Rattle.hub_picture.proofs.Plain.{plain-line}
 use Rattle.hub_picture.proofs.Reading.{plain}
 use Rattle.hub_picture.proofs.piece.put_entry.Goals as goal

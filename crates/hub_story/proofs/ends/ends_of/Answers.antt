@@ -9,7 +9,7 @@ loop-place-preserved c =
     let ends = c.loop-place.ends.items in
     let here = c.index-told-place in
     places-next c.args.told.now place here.result c.args.count ends c.note_end.new.ends.items c.loop-place-test.true c.loop-place.invariant
-    (c.note_end.ensures ∙ ap (with_end ends place) here.is)
+    (c.in_ok-note_end.ensures ∙ ap (with_end ends place) here.is)
 
 pub returns : goal.returns
 returns c =

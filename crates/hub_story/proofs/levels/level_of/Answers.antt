@@ -6,9 +6,9 @@ use Rattle.hub_base.specs.Entry.{Entry}
 use Rattle.hub_base.specs.declared.event.Outcome.{Outcome}
 use Rattle.hub_base.specs.declared.value.Value.{Value}
 use Rattle.hub_base.specs.Values.{sent_on, got_on}
+use Rattle.hub_base.proofs.Growing.{count-kept}
 use Rattle.hub_story.specs.declared.told.Told.{Told}
 use Rattle.hub_story.specs.Passing.{moved_by}
-use Rattle.hub_story.proofs.Filters.{count-kept}
 use Rattle.hub_story.proofs.levels.level_of.Goals as goal
 
 -- how often what is told by then is told of a move

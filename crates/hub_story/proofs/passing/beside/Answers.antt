@@ -1,7 +1,7 @@
 use Rattle.std.proofs.Common.{[], ◌∷◌, ◌++◌, ap, sym, ◌∙◌}
 use Rattle.hub_story.specs.declared.moved.Moved.{Moved}
-use Rattle.hub_story.proofs.Filters.{beside-none, beside-kept, beside-past}
 use Rattle.hub_story.proofs.passing.beside.Goals as goal
+use Rattle.hub_story.proofs.Beside.{beside-kept, beside-none, beside-past}
 
 pub loop-place-init : goal.loop-place-init
 loop-place-init c = c.new-passages.ensures.items ∙ sym (beside-none c.args.sends.now)

@@ -1,7 +1,7 @@
 use Rattle.std.proofs.Common.{[], ◌∙◌, ap, sym}
+use Rattle.hub_base.proofs.Growing.{kept-none, kept-some}
 use Rattle.hub_story.specs.Passing.{moved_by}
 use Rattle.hub_story.specs.Sides.{value_on}
-use Rattle.hub_story.proofs.Filters.{kept-some, kept-none}
 use Rattle.hub_story.proofs.passing.moves.Goals as goal
 use Rattle.hub_story.proofs.passing.moves.Goals.{in-Some+in_ok-push, in_default}
 

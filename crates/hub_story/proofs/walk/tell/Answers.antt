@@ -1,9 +1,9 @@
 use Rattle.std.proofs.Common.{◌≡◌, ◌∙◌, ℕ, List, Option, ap, sym}
 use Rattle.std.specs.Option.{option_map}
 use Rattle.hub_base.specs.declared.event.Event.{Event}
+use Rattle.hub_base.proofs.Growing.{kept-none, kept-some}
 use Rattle.hub_story.specs.declared.told.Told.{Told}
 use Rattle.hub_story.specs.LastCalls.{asked_of, tells_of}
-use Rattle.hub_story.proofs.Filters.{kept-some, kept-none}
 use Rattle.hub_story.proofs.walk.tell.Goals as goal
 use Rattle.hub_story.proofs.walk.tell.Goals.{in-Some+in_ok-push, in_default}
 

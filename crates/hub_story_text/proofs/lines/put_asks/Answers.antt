@@ -1,6 +1,6 @@
 use Rattle.std.proofs.Common.{◌∙◌, ap, sym, ◌++◌, [], ◌∷◌, append_assoc, arith}
 use Rattle.hub_base.specs.Lines.{line}
-use Rattle.hub_story.proofs.Editions.{three-has}
+use Rattle.hub_base.proofs.Editions.{three-has}
 use Rattle.hub_story_text.specs.LineText.{asks}
 use Rattle.hub_story_text.proofs.StepLines.{without-newline}
 use Rattle.hub_story_text.proofs.lines.put_asks.Goals as goal

@@ -1,6 +1,6 @@
 use Rattle.std.proofs.Common.{codes}
+use Rattle.hub_base.proofs.Growing.{flat-next}
 use Rattle.hub_story_text.specs.OutsideText.{outsider_words}
-use Rattle.hub_story_text.proofs.Chains.{flat-next}
 use Rattle.hub_story_text.proofs.outside.put_more.Goals as goal
 
 pub loop-outsider-preserved : goal.loop-outsider-preserved

@@ -1,42 +1,31 @@
-use Rattle.std.proofs.Common.{◌≡◌, ℕ, List, ◌∙◌, ◌++◌, ap, arith, subst, sym, codes, decimal, length, slice_get, []}
+use Rattle.std.proofs.Common.{◌≡◌, ℕ, List, ◌∙◌, ◌++◌, ap, sym, codes, decimal, length, slice_get, []}
 use Rattle.std.specs.Option.{option_map_or}
 use Rattle.hub_base.specs.Entry.{Entry}
 use Rattle.hub_story.specs.Levels.{received_by, sent_by}
 use Rattle.hub_story.specs.OfPorts.{things_on}
 use Rattle.hub_story.specs.Told.{told}
-use Rattle.hub_story.proofs.Filling.{told_by-all}
-use Rattle.hub_story.proofs.Ordered.{in-order}
 use Rattle.hub_story.specs.Passing.{receives, sends}
 use Rattle.hub_story_text.specs.Closers.{turns_on}
 use Rattle.hub_story_text.specs.declared.closers.Turns.{Turns}
-use Rattle.hub_story_text.specs.Fullest.{IsUp, fullest, fullest_of, steps_of}
+use Rattle.hub_story_text.specs.Fullest.{fullest, fullest_of, steps_of}
 use Rattle.hub_story_text.specs.PortText.{by_words, cap_words, counts_words, most_words, opened_at, turn_words}
-use Rattle.hub_base.specs.Values.{got_on, sent_on}
 use Rattle.hub_story_text.proofs.Chains.{one-more, two}
 use Rattle.hub_story_text.proofs.Closings.{among-turns}
-use Rattle.hub_story_text.proofs.Levels.{fullest-is, moved_by_steps, steps-up}
-use Rattle.hub_story_text.proofs.Places.{received-steps, sent-steps}
+use Rattle.hub_story_text.proofs.Levels.{fullest-is, moved_by_steps}
+use Rattle.hub_story_text.proofs.Places.{received-steps, received-up, sent-steps, sent-up}
 use Rattle.hub_story_text.proofs.ports.put_port.Goals as goal
 
 pub fullest_on-requires-clause-sent : goal.fullest_on-requires-clause-sent
-fullest_on-requires-clause-sent c =
-    let es = c.args.journal.now.entries in
-    let all = told c.args.journal.now.head es in
-    subst (IsUp 0) (sym (sent-steps es all c.args.moves.now c.requires.moves c.args.port))
-    (steps-up (sent_on c.args.port) es 0 all (in-order c.args.journal.now.head es))
+fullest_on-requires-clause-sent c = sent-up _ _ c.args.moves.now c.requires.moves c.requires.telling.in_order c.args.port
 
 pub fullest_on-requires-clause-received : goal.fullest_on-requires-clause-received
-fullest_on-requires-clause-received c =
-    let es = c.args.journal.now.entries in
-    let all = told c.args.journal.now.head es in
-    subst (IsUp 0) (sym (received-steps es all c.args.moves.now c.requires.moves c.args.port))
-    (steps-up (got_on c.args.port) es 0 all (in-order c.args.journal.now.head es))
+fullest_on-requires-clause-received c = received-up _ _ c.args.moves.now c.requires.moves c.requires.telling.in_order c.args.port
 
 pub returns : goal.returns
 returns c =
     let es = c.args.journal.now.entries in
     let all = told c.args.journal.now.head c.args.journal.now.entries in
-    let whole = told_by-all c.args.journal.now.head es (length es) (omega arith) in
+    let whole = c.requires.telling.within in
     let p = c.args.port in
     let out = c.args.out.now.items in
     let turns = turns_on es all p in
@@ -55,7 +44,7 @@ returns c =
     c.in_ok-fullest_on.ensures
     ∙ ap (λ l. fullest_of l (steps_of (things_on c.args.moves.now.received p))) (sent-steps es all c.args.moves.now c.requires.moves p)
     ∙ ap (fullest_of (moved_by_steps (sends es all p))) (received-steps es all c.args.moves.now c.requires.moves p)
-    ∙ fullest-is es all p (length es) (in-order c.args.journal.now.head es) whole in
+    ∙ fullest-is es all p (length es) c.requires.telling.in_order whole in
     let made = by_words (codes " made by P") c.args.made.now in
     let before = codes "port " ++ decimal p.0 in
     let at-number = two out c.put_number.new.out.items (codes "port ") (decimal p.0) (rw c.into.ensures at c.in_ok-put_number.ensures) in

@@ -1,8 +1,8 @@
 use Rattle.std.proofs.Common.{◌≡◌, ◌≤◌, ◌+◌, ap, arith, length, refl, subst, sym, ◌∙◌}
-use Rattle.hub_story_text.specs.Explained.{entries_of, told_of}
+use Rattle.hub_base.proofs.Results.{on-err}
+use Rattle.hub_story_text.specs.Explained.{entries_of, lines_from, told_of}
 use Rattle.hub_story_text.specs.Seen.{IsSeen}
-use Rattle.hub_story_text.specs.StoryText.{steps_from}
-use Rattle.hub_story_text.proofs.AllBut.{begun, more-written, next-begun, none-yet, on-err}
+use Rattle.hub_story_text.proofs.AllBut.{begun, more-written, next-begun, none-yet}
 use Rattle.hub_story_text.proofs.StepTexts.{no-step-left}
 use Rattle.hub_story_text.proofs.steps.write_steps.Goals as goal
 
@@ -28,8 +28,8 @@ loop-place-preserved g c =
       at = c.in_ok-entry.ensures.at;
       seen = c.in_ok-end.ensures.seen;
       written =
-          more-written so.written _ c.put_step.new.out.items c.write_many.new.lines.items
-          (steps_from e.paint c.args.window e.clock (entries_of e) (told_of e) (c.loop-place.place + 1)) (sym c.in_ok-put_step.ensures)
+          more-written so.written _ c.put_step.new.out.items c.write_many.new.text.items
+          (lines_from e c.args.window (c.loop-place.place + 1)) (sym c.in_ok-put_step.ensures)
           c.in_ok-write_many.ensures.whole;
       same = c.in_ok-write_many.ensures.ok ∙ so.same;
     }

@@ -1,9 +1,10 @@
 use Rattle.std.proofs.Common.{◌≡◌, ◌++◌, ◌∙◌, List, [], ℕ, ap, append-nil, subst, sym}
 use Rattle.std.specs.Io.KnownBytes.{Appends}
+use Rattle.hub_base.proofs.Results.{on-err}
 use Rattle.hub_replay.specs.Devices.{AppendsBeginning}
 use Rattle.hub_story_text.specs.Explained.{entries_of, head_of, told_of}
 use Rattle.hub_story_text.specs.StoryText.{end_text, heading}
-use Rattle.hub_story_text.proofs.AllBut.{all-written, begun, end-begun, next-begun, on-err, with-end}
+use Rattle.hub_story_text.proofs.AllBut.{all-written, begun, end-begun, next-begun, with-end}
 use Rattle.hub_story_text.proofs.text.write_explained.Goals as goal
 
 -- the whole, where the first text is the heading

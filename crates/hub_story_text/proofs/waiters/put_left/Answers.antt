@@ -1,7 +1,7 @@
 use Rattle.std.proofs.Common.{◌++◌, ◌∙◌, ap, codes}
+use Rattle.hub_base.proofs.Growing.{flat-next}
 use Rattle.hub_story.specs.declared.told.Told.{Told}
 use Rattle.hub_story_text.specs.WaiterText.{who_words}
-use Rattle.hub_story_text.proofs.Chains.{flat-next}
 use Rattle.hub_story_text.proofs.waiters.put_left.Goals as goal
 
 pub loop-told-preserved : goal.loop-told-preserved

@@ -1,6 +1,6 @@
+use Rattle.hub_base.proofs.Growing.{flat-next}
 use Rattle.hub_story_text.specs.Explained.{entries_of, told_of}
 use Rattle.hub_story_text.specs.Waits.{EndsLate, line_at}
-use Rattle.hub_story_text.proofs.Chains.{flat-next}
 use Rattle.hub_story_text.proofs.Lateness.{all-first}
 use Rattle.hub_story_text.proofs.waits.put_longest.Goals as goal
 

@@ -1,15 +1,16 @@
 use Rattle.std.proofs.Common.{◌++◌, [], codes, count_by, decimal, length}
 use Rattle.std.specs.List.{flat_map}
+use Rattle.std.proofs.lemmas.Result.{on_ok_weaker}
 use Rattle.hub_story_text.specs.Explained.{entries_of, told_of}
 use Rattle.hub_story_text.specs.Waits.{counts, line_at, longest, waits}
-use Rattle.hub_story_text.proofs.Chains.{on-ok, two, one-more, two-more}
+use Rattle.hub_story_text.proofs.Chains.{two, one-more, two-more}
 use Rattle.hub_story_text.proofs.Lateness.{longest-late}
 use Rattle.hub_story_text.proofs.waits.put_waits.Goals as goal
 
 pub put_longest-requires-clause-late : goal.put_longest-requires-clause-late
 put_longest-requires-clause-late c =
     let e = c.args.explained.now in
-    rw (c.deref.ensures.value, c.requires.waits.longest) (longest-late e.journal.now.head (entries_of e) e.clock)
+    rw (c.deref.ensures.value, c.requires.waits.longest) (longest-late (entries_of e) (told_of e) c.requires.explained.known.telling e.clock)
 
 pub returns : goal.returns
 returns c =
@@ -26,7 +27,7 @@ returns c =
     let words = codes " calls waited, the longest first, five at most\n" in
     let heading = one-more out c.put_number-2.new.out.items c.extend_from_slice.new.self.items (waited ++ codes " of " ++ calls)
     words second c.in_ok-extend_from_slice.ensures.items in
-    on-ok c.put_longest.result
+    on_ok_weaker c.put_longest.result
     (one-more out c.extend_from_slice.new.self.items c.put_longest.new.out.items (waited ++ codes " of " ++ calls ++ words)
     (flat_map (line_at clock es told) (longest (waits clock es told))) heading)
     (rw (c.deref.ensures.value, c.requires.waits.longest) at c.put_longest.ensures)

@@ -1,5 +1,5 @@
 use Rattle.std.proofs.Common.{◌≡◌, arith, length}
-use Rattle.hub_story.proofs.Editions.{three-has}
+use Rattle.hub_base.proofs.Editions.{three-has}
 use Rattle.hub_trace.specs.declared.pieces.Piece.TheVariants.{Asks}
 use Rattle.hub_trace.proofs.Spelled.{entry-spelled, taken}
 use Rattle.hub_trace.proofs.pieces.put_asked.Goals as goal

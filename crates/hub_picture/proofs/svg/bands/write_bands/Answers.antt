@@ -1,9 +1,9 @@
-use Rattle.std.proofs.Common.{refl}
-use Rattle.hub_picture.proofs.Writing.{still, unwritten}
+use Rattle.hub_base.proofs.Results.{on-err}
+use Rattle.hub_picture.proofs.Writing.{begun-here}
 use Rattle.hub_picture.proofs.svg.bands.write_bands.Goals as goal
 
-pub returns-then-bands-eq0-clause-text : goal.returns-then-bands-eq0-clause-text
-returns-then-bands-eq0-clause-text g c = still
+pub returns-then-bands-eq0-clause-goes : goal.returns-then-bands-eq0-clause-goes
+returns-then-bands-eq0-clause-goes g c start so = so
 
-pub returns-in_err-shapes-clause-text : goal.returns-in_err-shapes-clause-text
-returns-in_err-shapes-clause-text g c = unwritten c.from_residual.ensures.0 refl
+pub returns-in_err-shapes-clause-begun : goal.returns-in_err-shapes-clause-begun
+returns-in_err-shapes-clause-begun g c = on-err c.from_residual.result (λ start so. begun-here so)

@@ -1,6 +1,6 @@
 use Rattle.std.proofs.Common.{◌++◌, take}
+use Rattle.hub_base.proofs.Growing.{noted-next}
 use Rattle.hub_story.specs.LastMoves.{AreLast}
-use Rattle.hub_story.proofs.Filters.{noted-next}
 use Rattle.hub_story.proofs.last_moves.LastMoves.note_all.Goals as goal
 
 pub loop-told-preserved : goal.loop-told-preserved

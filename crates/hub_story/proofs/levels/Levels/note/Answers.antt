@@ -1,9 +1,9 @@
 use Rattle.std.proofs.Common.{◌≡◌, ◌<◌, ◌∙◌, ap, refl, subst, sym}
 use Rattle.std.specs.Prelude.{IfSome}
+use Rattle.std.proofs.lemmas.Result.{on_ok_weaker}
 use Rattle.hub_parts.specs.declared.side.Side.TheVariants as side
 use Rattle.hub_story.specs.declared.by_port.TheConstants.{PORT_NUMBERS}
-use Rattle.hub_story.proofs.Counted.{none-moved, one_more, one-received, one-sent}
-use Rattle.hub_story.proofs.Filters.{on-ok}
+use Rattle.hub_story.proofs.Counted.{none-moved, one_more, one-moved}
 use Rattle.hub_story.proofs.levels.Levels.note.Goals as goal
 
 pub returns-in_default-clause-counted : goal.returns-in_default-clause-counted
@@ -18,9 +18,9 @@ returns-in-Send-clause-counted c =
     let sends = c.in-Send.is in
     let on : m.side ≡ side.Send = cc in
     let few = subst (λ o. IfSome o (λ m. m.port.0 < PORT_NUMBERS)) c.move_of.ensures.value c.move_of.ensures.few in
-    on-ok c.count_one.result
+    on_ok_weaker c.count_one.result
     (λ counted before was.
-    one-sent c.args.entries.now before c.args.told.now old _ m c.requires was few (sym c.move_of.ensures.value ∙ c.in-Some.is) on
+    one-moved c.args.entries.now before c.args.told.now old _ m side.Send c.requires was few (sym c.move_of.ensures.value ∙ c.in-Some.is) on
     (counted ∙ ap (one_more old.sent.items) c.into.ensures) refl)
     c.count_one.ensures.ok
 
@@ -32,8 +32,8 @@ returns-in-Recv-clause-counted c =
     let receives = c.in-Recv.is in
     let on : m.side ≡ side.Recv = cc in
     let few = subst (λ o. IfSome o (λ m. m.port.0 < PORT_NUMBERS)) c.move_of.ensures.value c.move_of.ensures.few in
-    on-ok c.count_one-in-Recv.result
+    on_ok_weaker c.count_one-in-Recv.result
     (λ counted before was.
-    one-received c.args.entries.now before c.args.told.now old _ m c.requires was few (sym c.move_of.ensures.value ∙ c.in-Some.is) on refl
+    one-moved c.args.entries.now before c.args.told.now old _ m side.Recv c.requires was few (sym c.move_of.ensures.value ∙ c.in-Some.is) on refl
     (counted ∙ ap (one_more old.received.items) c.into-in-Recv.ensures))
     c.count_one-in-Recv.ensures.ok

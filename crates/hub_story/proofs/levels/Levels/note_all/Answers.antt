@@ -1,6 +1,6 @@
 use Rattle.std.proofs.Common.{◌++◌, take}
+use Rattle.hub_base.proofs.Growing.{noted-next}
 use Rattle.hub_story.specs.Levels.{AreLevels}
-use Rattle.hub_story.proofs.Filters.{noted-next}
 use Rattle.hub_story.proofs.levels.Levels.note_all.Goals as goal
 
 pub loop-told-preserved : goal.loop-told-preserved
